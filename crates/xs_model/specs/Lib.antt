@@ -1,0 +1,4 @@
+pub mod Paths
+pub mod Perms
+pub mod Trees
+pub mod Messages
