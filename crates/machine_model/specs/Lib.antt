@@ -1,0 +1,4 @@
+pub mod Connections
+pub mod Transactions
+pub mod Machine
+pub mod History
