@@ -1,0 +1,4 @@
+//! Worked rows: scripts and the transcripts that they print, computed from the definitions alone.
+#![tactic(auto)]
+
+pub mod first;
