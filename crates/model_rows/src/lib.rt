@@ -1,4 +1,5 @@
 //! Worked rows: scripts and the transcripts that they print, computed from the definitions alone.
 #![tactic(auto)]
 
+pub mod cuts;
 pub mod first;

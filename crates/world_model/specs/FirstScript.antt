@@ -1,9 +1,9 @@
 -- The scripts that this version plays, and what it prints for them: domain 0 sends whole messages, one at a time, and
 -- each is served at once. This project's own, and for a time: the whole grammar takes their place.
-use Rattle.std.specs.Prelude.{ℕ, ◌+◌, ◌==◌, Bool, true, false, ◌&&◌, List, [], ◌∷◌, ◌++◌, length, take, drop, nat_le, if◌then◌else◌, Option, Some, None, is_some, codes, decimal}
+use Rattle.std.specs.Prelude.{ℕ, ◌+◌, ◌==◌, Bool, ◌&&◌, List, [], ◌∷◌, ◌++◌, length, take, drop, nat_le, Option, Some, None, is_some, codes, decimal}
 use Rattle.std.specs.Str.{bytes_eq}
 use Rattle.text_model.specs.Hex.{hex, bytes_of_hex}
-use Rattle.xs_model.specs.Messages.{word_at, message_bytes}
+use Rattle.xs_model.specs.Messages.{word_at}
 use Rattle.xs_model.specs.Requests.{◌>>=◌, ok_value, when}
 use Rattle.machine_model.specs.Machine.{Machine, Asked, built_step, new_machine}
 use Rattle.machine_model.specs.History.{sent_to}

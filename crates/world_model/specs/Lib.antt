@@ -1,2 +1,7 @@
 pub mod Lines
 pub mod FirstScript
+pub mod Rings
+pub mod Fronts
+pub mod Worlds
+pub mod Scripts
+pub mod Transcripts

@@ -1,5 +1,5 @@
 -- Lines of a text. A line feed ends a line; the last line may lack it. This project's own.
-use Rattle.std.specs.Prelude.{ℕ, ◌==◌, List, [], ◌∷◌, ◌++◌, if◌then◌else◌}
+use Rattle.std.specs.Prelude.{ℕ, ◌==◌, List, [], ◌∷◌, if◌then◌else◌}
 
 -- a byte before the first of some lines
 abbrev pub onto_line : ℕ → List (List ℕ) → List (List ℕ)
