@@ -1,0 +1,7 @@
+use Rattle.std.proofs.Common.{◌≡◌, drop}
+use Rattle.text_model.specs.Decimal.{bad_digit_from}
+use Rattle.xs_base.proofs.decimal.bad_digit.Given as goal
+
+-- the first bad digit of what is left is that of all
+abbrev pub invariant-loop-at : goal.invariant-loop-at
+invariant-loop-at l = bad_digit_from l.at (drop l.at l.text) ≡ bad_digit_from 0 l.text
