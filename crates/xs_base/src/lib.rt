@@ -1,22 +1,34 @@
-//! What every other crate of this repository stands on: lists of bytes and of items, and numbers and bytes
-//! in a text.
+//! What every other crate of this repository stands on: lists of bytes and of items, numbers and bytes in a
+//! text, and the ends where bytes come from and go to.
 //!
 //! - [`Bytes`] and [`Items`] are lists that grow at their end, and contracts see them as lists.
 //! - [`read_hex`], [`push_hex`], [`read_decimal`] and [`push_decimal`] read and write by the definitions of the
 //!   crate `text_model`; [`laws`] has that reading undoes writing.
+//! - A [`Source`], a [`Sink`] and a [`Vault`] are what a program works on. A contract speaks of the bytes that
+//!   pass and of a count of faults, and not of what stands behind an end. A [`Gate`] holds a thread in a test.
 //!
 //! What takes memory takes the allocator first and may answer [`NoMemory`]; it is then as it was before the call.
 #![tactic(auto)]
 
 mod byte_list;
 mod decimal;
+mod faults;
+mod gates;
 mod hexadecimal;
 mod item_list;
 pub mod laws;
+mod sinks;
+mod sources;
+mod vaults;
 
 pub use byte_list::Bytes;
 pub use decimal::{push_decimal, read_decimal};
+pub use faults::{Failed, VaultErr};
+pub use gates::{Gate, OpenGate};
 pub use hexadecimal::{push_hex, read_hex};
 pub use item_list::{Calls, Items};
+pub use sinks::Sink;
+pub use sources::Source;
 pub use std::alloc::AllocError as NoMemory;
 pub use text_model::{HexFault, NumFault};
+pub use vaults::Vault;
