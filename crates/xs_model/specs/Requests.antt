@@ -116,25 +116,23 @@ perms_of rest (b ∷ bs) =
     if b == 0 then last_perm (ok_value (perm_of rest)) (is_empty bs) (perms_of [] bs) else perms_of (rest ++ b ∷ []) bs
 
 -- PAYLOADS. Exactly one string, a path
-abbrev pub path_request : Operation → List ℕ → ℕ → Option Request
-path_request operation payload domid = do
+abbrev pub one_path : List ℕ → ℕ → Option Path
+one_path payload domid = do
   bytes ← one_string payload
-  path ← ok_value (path_of bytes domid)
-  Some (Command operation path)
+  ok_value (path_of bytes domid)
+
+abbrev pub path_request : Operation → List ℕ → ℕ → Option Request
+path_request operation payload domid = option_map (Command operation) (one_path payload domid)
 
 abbrev pub is_root : Path → Bool
 is_root [] = true
 is_root (n ∷ ns) = false
 
 -- `/` can't be removed
-abbrev pub removal : Path → Option Request
-removal path = when (not (is_root path)) (Command Rm path)
-
 abbrev pub rm_request : List ℕ → ℕ → Option Request
 rm_request payload domid = do
-  bytes ← one_string payload
-  path ← ok_value (path_of bytes domid)
-  removal path
+  path ← one_path payload domid
+  when (not (is_root path)) (Command Rm path)
 
 -- a path, and all bytes after it are the value
 abbrev pub write_request : List ℕ → ℕ → Option Request
