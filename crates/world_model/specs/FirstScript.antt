@@ -1,6 +1,7 @@
 -- The scripts that this version plays, and what it prints for them: domain 0 sends whole messages, one at a time, and
 -- each is served at once. This project's own, and for a time: the whole grammar takes their place.
-use Rattle.std.specs.Prelude.{ℕ, ◌+◌, ◌==◌, Bool, ◌&&◌, List, [], ◌∷◌, ◌++◌, length, take, drop, nat_le, Option, Some, None, is_some, codes, decimal}
+use Rattle.std.specs.Prelude.{ℕ, ◌-◌, ◌==◌, Bool, ◌&&◌, List, [], ◌∷◌, ◌++◌, length, drop, nat_eq, nat_le, Option, Some, None, is_some, codes, decimal}
+use Rattle.std.specs.List.{starts_with}
 use Rattle.std.specs.Str.{bytes_eq}
 use Rattle.text_model.specs.Hex.{hex, bytes_of_hex}
 use Rattle.xs_model.specs.Messages.{word_at}
@@ -11,12 +12,12 @@ use Rattle.world_model.specs.Lines.{lines_of}
 
 -- one whole message of at most 1024 bytes, a header of 16 included
 abbrev pub is_first_message : List ℕ → Bool
-is_first_message bytes = nat_le 16 (length bytes) && (nat_le (length bytes) 1024 && length bytes == 16 + word_at 12 bytes)
+is_first_message bytes = nat_le 16 (length bytes) && (nat_le (length bytes) 1024 && length bytes - 16 == word_at 12 bytes)
 
 -- the message of a line `send 0 HEX`
 abbrev pub first_message : List ℕ → Option (List ℕ)
 first_message line = do
-  _verb ← when (bytes_eq (take 7 line) (codes "send 0 ")) line
+  _verb ← when (starts_with nat_eq line (codes "send 0 ")) line
   bytes ← ok_value (bytes_of_hex (drop 7 line))
   when (is_first_message bytes) bytes
 

@@ -5,3 +5,4 @@ pub mod Fronts
 pub mod Worlds
 pub mod Scripts
 pub mod Transcripts
+pub mod Served

@@ -54,15 +54,17 @@ pub data Event : Type 0 where
   ShowPage : ℕ → Event
   Handover : Event
 
--- what an event leaves, answers and, where a guest takes bytes, gives it; and what it does to the store, if anything
+-- what an event leaves and answers; the bytes that a guest put into its request ring, and those that it took from its
+-- reply ring; and what happened to the store, if anything
 pub record Told : Type 0 where
   pub world : World
   pub said : Said
+  pub given : List ℕ
   pub taken : List ℕ
   pub items : List Item
 
 abbrev pub told : World → Said → Told
-told w s = record { world = w; said = s; taken = []; items = [] }
+told w s = record { world = w; said = s; given = []; taken = []; items = [] }
 
 -- PARTS OF A WORLD
 abbrev pub with_guest : ℕ → Guest → World → World
@@ -81,11 +83,16 @@ queued d bytes w guest =
     told (with_guest d (record { page = guest.page; outbox = guest.outbox ++ bytes }) w) (said.Queued (length bytes))
 
 abbrev pub put_some : ℕ → ℕ → World → Guest → Told
-put_some d n w guest =
-    told (with_guest d (record {
-      page = with_request (put_all (take n guest.outbox) guest.page.request) guest.page;
-      outbox = drop n guest.outbox;
-    }) w) (said.Put n)
+put_some d n w guest = record {
+  world = with_guest d (record {
+    page = with_request (put_all (take n guest.outbox) guest.page.request) guest.page;
+    outbox = drop n guest.outbox;
+  }) w;
+  said = said.Put n;
+  given = take n guest.outbox;
+  taken = [];
+  items = [];
+}
 
 -- as many as it may, has, and finds room for
 abbrev pub put_at_most : ℕ → ℕ → World → Guest → Told
@@ -95,6 +102,7 @@ abbrev pub got_some : ℕ → ℕ → World → Guest → Told
 got_some d n w guest = record {
   world = with_page d (with_reply (take_some n guest.page.reply) guest.page) guest w;
   said = said.Got n;
+  given = [];
   taken = take n (held guest.page.reply);
   items = [];
 }
@@ -152,6 +160,7 @@ dropped d error s w at = record {
     channels = without_channel at.conn w.channels;
   };
   said = s;
+  given = [];
   taken = [];
   items = Lost at.conn ∷ [];
 }
@@ -233,7 +242,7 @@ world_after w stepped channels = record {
 abbrev pub done_unless : Option ℕ → World → Item → Step → List (ℕ × Channel) → Told
 done_unless (Some c) w item stepped channels = told w (said.Crowded c)
 done_unless None w item stepped channels =
-    record { world = world_after w stepped channels; said = said.Done; taken = []; items = item ∷ [] }
+    record { world = world_after w stepped channels; said = said.Done; given = []; taken = []; items = item ∷ [] }
 
 abbrev pub done_with : World → Item → Step → List (ℕ × Channel) → Told
 done_with w item stepped channels = done_unless (crowded channels) w item stepped channels
