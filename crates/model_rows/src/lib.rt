@@ -3,3 +3,6 @@
 
 pub mod cuts;
 pub mod first;
+pub mod refusals;
+pub mod transactions;
+pub mod watches;
