@@ -1,3 +1,6 @@
 pub mod Faults
+pub mod MemSink
+pub mod MemSource
 pub mod Memory
+pub mod Tally
 pub mod Vault

@@ -11,14 +11,18 @@
 #![tactic(auto)]
 
 mod byte_list;
+mod call_tally;
 mod decimal;
 mod faults;
 mod gates;
 mod hexadecimal;
 mod item_list;
 pub mod laws;
+mod mem_sink;
+mod mem_source;
 mod sinks;
 mod sources;
+mod sure_source;
 mod vaults;
 
 pub use byte_list::Bytes;
@@ -27,8 +31,11 @@ pub use faults::{Failed, VaultErr};
 pub use gates::{Gate, OpenGate};
 pub use hexadecimal::{push_hex, read_hex};
 pub use item_list::{Calls, Items};
+pub use mem_sink::MemSink;
+pub use mem_source::MemSource;
 pub use sinks::Sink;
 pub use sources::Source;
 pub use std::alloc::AllocError as NoMemory;
+pub use sure_source::SureSource;
 pub use text_model::{HexFault, NumFault};
 pub use vaults::Vault;

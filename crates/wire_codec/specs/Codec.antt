@@ -1,0 +1,56 @@
+-- What the readers of messages answer, beside the definitions of `xs_model`.
+use Rattle.std.specs.Prelude.{◌≡◌, ℕ, ◌^◌, ◌<◌, List, Option, Some, None, Result, Ok, Err, ⊤}
+use Rattle.std.specs.Borrow.{Bor}
+use Rattle.wire_codec.specs.declared.request.TreeOp.{TreeOp}
+use Rattle.wire_codec.specs.declared.request.TreeOp.TheVariants as op
+use Rattle.wire_codec.specs.declared.request.Request.{Request}
+use Rattle.wire_codec.specs.declared.request.Request.TheVariants.{Command}
+use Rattle.wire_codec.specs.declared.request.RequestErr.{RequestErr}
+use Rattle.wire_codec.specs.declared.request.RequestErr.TheVariants.{Enosys, Einval, NoMemory}
+use Rattle.xs_model.specs.declared.message.Header.{Header}
+use Rattle.xs_model.specs.declared.message.WireErr.{WireErr}
+use Rattle.xs_model.specs.declared.message.WireErr.TheVariants as wire
+use Rattle.xs_model.specs.declared.path.PathFault.{PathFault}
+use Rattle.xs_model.specs.Paths.{Path}
+use Rattle.xs_model.specs.Requests.{ok_value, Operation}
+use Rattle.xs_model.specs.Requests as model
+
+-- the numbers of a header fit their fields
+pub record Fits (head : Header) : Type 0 where
+  pub kind : head.kind < 2 ^ 32
+  pub req_id : head.req_id < 2 ^ 32
+  pub tx_id : head.tx_id < 2 ^ 32
+  pub len : head.len < 2 ^ 32
+
+-- two slices as two lists
+abbrev pub cut_view : Bor (List ℕ) × Bor (List ℕ) → List ℕ × List ℕ
+cut_view cut = (cut.0.now, cut.1.now)
+
+-- a request as the definitions have it
+abbrev pub operation_of : TreeOp → Operation
+operation_of op.Read = model.Read
+operation_of (op.Write value) = model.Write value
+
+abbrev pub request_view : Request → model.Request
+request_view (Command command) = model.Command (operation_of command.op) command.path
+
+-- the path of bytes, and Einval exactly where they are none
+abbrev pub IsPathOf : Result Path RequestErr → Result Path PathFault → Type 0
+IsPathOf (Ok path) defined = defined ≡ Ok path
+IsPathOf (Err Enosys) defined = ⊥
+IsPathOf (Err Einval) defined = ok_value defined ≡ None
+IsPathOf (Err NoMemory) defined = ⊤
+
+-- the same of an optional path
+abbrev pub IsOnePath : Result Path RequestErr → Option Path → Type 0
+IsOnePath (Ok path) defined = defined ≡ Some path
+IsOnePath (Err Enosys) defined = ⊥
+IsOnePath (Err Einval) defined = defined ≡ None
+IsOnePath (Err NoMemory) defined = ⊤
+
+-- the request that is defined, or the refusal that is; want of memory is free
+abbrev pub IsRequest : Result Request RequestErr → Result model.Request WireErr → Type 0
+IsRequest (Ok request) defined = defined ≡ Ok (request_view request)
+IsRequest (Err Enosys) defined = defined ≡ Err wire.Enosys
+IsRequest (Err Einval) defined = defined ≡ Err wire.Einval
+IsRequest (Err NoMemory) defined = ⊤

@@ -1,0 +1,56 @@
+//! Headers, and whole messages.
+
+ghost use Rattle.std.specs.Prelude.{◌≡◌, ◌≤◌, ◌-◌, ◌++◌, ℕ, length, drop, take, IfOk};
+ghost use Rattle.xs_model.specs.Messages.{header_of, header_bytes, word_at};
+
+use byteorder::{ByteOrder, LittleEndian};
+use std::alloc::Global;
+use xs_base::{Bytes, NoMemory};
+use xs_model::message::{Header, PAYLOAD_MAX};
+
+/// The bytes of a header.
+pub const HEADER_LEN: usize = 16;
+
+/// The number in the 32 bits from a place on.
+fn word(bytes: &[u8; 16], at: usize) -> u32
+    requires { at ≤ 12 }
+    ensures { result ≡ word_at at bytes.now }
+{
+    LittleEndian::read_u32(&bytes[at..])
+}
+
+/// The header that 16 bytes are. Any bytes are one. O(1).
+pub fn read_header(bytes: &[u8; 16]) -> Header
+    ensures { result ≡ header_of bytes.now }
+{
+    Header {
+        kind: word(bytes, 0),
+        req_id: word(bytes, 4),
+        tx_id: word(bytes, 8),
+        len: word(bytes, 12),
+    }
+}
+
+/// The 16 bytes of a header.
+fn head_bytes(head: &Header) -> [u8; 16]
+    ensures { result ≡ header_bytes head.now }
+{
+    let mut bytes = [0; 16];
+    LittleEndian::write_u32(&mut bytes[0..4], head.kind);
+    LittleEndian::write_u32(&mut bytes[4..8], head.req_id);
+    LittleEndian::write_u32(&mut bytes[8..12], head.tx_id);
+    LittleEndian::write_u32(&mut bytes[12..16], head.len);
+    bytes
+}
+
+/// The bytes of a message, in one allocation. O(length of the payload).
+pub fn write_message(alloc: Global, head: Header, payload: &[u8]) -> Result<Bytes, NoMemory>
+    requires len { head.len ≡ length payload.now }
+    requires fits { length payload.now ≤ PAYLOAD_MAX }
+    ensures { IfOk result (λ bytes. bytes ≡ header_bytes head ++ payload.now) }
+{
+    let mut bytes = Vec::with_capacity(alloc, HEADER_LEN + payload.len())?;
+    bytes.extend_from_slice(&head_bytes(&head))?;
+    bytes.extend_from_slice(payload)?;
+    Ok(Bytes::from_vec(bytes))
+}

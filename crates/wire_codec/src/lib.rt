@@ -1,0 +1,14 @@
+//! Messages on the wire and what they ask for (xs_wire.h, xenstore.txt).
+//!
+//! A message is a header of 16 bytes and a payload of at most 4096. [`read_header`] and [`write_message`]
+//! are each other's inverse; [`read_request`] reads the payload of a message that the store serves.
+#![tactic(auto)]
+
+mod head;
+pub mod laws;
+mod payload;
+mod request;
+
+pub use head::{read_header, write_message};
+pub use request::{read_request, Request, RequestErr, TreeCommand, TreeOp};
+pub use xs_model::message::{Header, WireErr, kind};
