@@ -6,3 +6,4 @@ pub mod Requests
 pub mod Commands
 pub mod Changes
 pub mod Watches
+pub mod Laws

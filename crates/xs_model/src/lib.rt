@@ -4,6 +4,7 @@
 //! plain data types that both the definitions and the code of the crates above name.
 #![tactic(auto)]
 
+pub mod laws;
 pub mod message;
 pub mod path;
 pub mod perm;

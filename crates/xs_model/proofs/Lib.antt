@@ -1,0 +1,6 @@
+pub mod Maps
+pub mod PathLemmas
+pub mod EditLemmas
+pub mod WayLemmas
+pub mod TreeLemmas
+pub mod CommandLemmas
