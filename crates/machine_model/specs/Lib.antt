@@ -2,3 +2,5 @@ pub mod Connections
 pub mod Transactions
 pub mod Machine
 pub mod History
+pub mod Serial
+pub mod Laws

@@ -4,6 +4,8 @@
 //! plain data types that both the definitions and the code of the crates above name.
 #![tactic(auto)]
 
+pub mod laws;
+
 /// What stands at the other end of a connection.
 #[derive(Clone, Copy, Debug, PartialEq, Eq)]
 pub enum ConnSpec {

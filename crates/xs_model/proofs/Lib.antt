@@ -4,3 +4,7 @@ pub mod EditLemmas
 pub mod WayLemmas
 pub mod TreeLemmas
 pub mod CommandLemmas
+pub mod PickLemmas
+pub mod AlikeLemmas
+pub mod AnswerLemmas
+pub mod ChangeLemmas

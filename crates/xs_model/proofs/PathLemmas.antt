@@ -3,7 +3,7 @@ use Rattle.std.specs.Prelude.{◌≡◌, true, false, cond, ◌||◌, List, [], 
 use Rattle.std.specs.Cmp.{IsTotalOrder, eq_by_cmp_equiv, Equal-is}
 use Rattle.std.specs.Cmp.Lexicographic.{lists_total, nat_list_cmp_total}
 use Rattle.std.specs.FinMap.{IsAntisymmetric, slice_cmp-IsAntisymmetric, nat_cmp-IsAntisymmetric}
-use Rattle.std.proofs.Common.{sym, refl, ap, ◌∙◌, append_assoc}
+use Rattle.std.proofs.Common.{sym, refl, ap, subst, ◌∙◌, append_assoc, append-nil}
 use Rattle.std.proofs.lemmas.Bool.{or_cases, or_left, or_right}
 use Rattle.std.specs.Prelude.{◌⊎◌}
 use Rattle.xs_model.specs.Paths.{Name, Path, name_cmp, path_cmp, same_name, same_path, has_path, child, names_below, is_below}
@@ -101,6 +101,9 @@ is_below-child p q n h = below_by p q n (names_below p q) refl h
 
 pub is_below-way : (p : Path) (ns : List Name) → is_below p (p ++ ns) ≡ true
 is_below-way p ns = ap is_some (below-append p ns)
+
+pub is_below-itself : (p : Path) → is_below p p ≡ true
+is_below-itself p = subst (λ q. is_below p q ≡ true) (append-nil p) (is_below-way p [])
 
 way_by : (p q : Path) (o : Option (List Name)) → names_below p q ≡ o → is_some o ≡ true → (ns : List Name) × (q ≡ p ++ ns)
 way_by p q None b e = not_both e refl

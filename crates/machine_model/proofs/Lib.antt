@@ -1,0 +1,4 @@
+pub mod RunLemmas
+pub mod OpenLemmas
+pub mod KeepLemmas
+pub mod HistoryLemmas
