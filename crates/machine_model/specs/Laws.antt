@@ -1,11 +1,18 @@
 -- The laws above the definitions of this crate, as statements. Each is proved of a function in `src/laws.rt`, for every
 -- list of served message types.
-use Rattle.std.specs.Prelude.{ℕ, List}
+use Rattle.std.specs.Prelude.{◌≡◌, ℕ, List, [], Some, None}
+use Rattle.std.specs.List.{AllByRecursion}
+use Rattle.std.specs.Ordering.{nat_cmp}
+use Rattle.std.specs.FinMap.{find}
+use Rattle.xs_model.specs.declared.message.kind.TheConstants.{WATCH_EVENT}
+use Rattle.xs_model.specs.Messages.{header_of}
 use Rattle.xs_model.specs.Trees.{IsTree}
 use Rattle.machine_model.specs.Transactions.{after}
-use Rattle.machine_model.specs.Machine.{Machine, new_machine, Item}
+use Rattle.machine_model.specs.Connections.{Connection}
+use Rattle.machine_model.specs.Machine.{Machine, new_machine, Item, Asked, Lost, step_with}
 use Rattle.machine_model.specs.History.{run_with, past_at_start}
 use Rattle.machine_model.specs.Serial.{EachOpen, IsFollowed, IsSerial}
+use Rattle.machine_model.specs.Sends.{IsAnswered, IsDue, IsDrop}
 
 -- the store after some items, from a start
 abbrev pub machine_after : List ℕ → Machine → List Item → Machine
@@ -33,3 +40,24 @@ FollowedRunsAreSerial = (served : List ℕ) (start : Machine) (items : List Item
 
 abbrev pub RunsKeepFollowed : Type 0
 RunsKeepFollowed = (served : List ℕ) (start : Machine) (items : List Item) → IsFollowed start → IsFollowed (machine_after served start items)
+
+-- REPLIES. In every store, reached or not, a request of a connection that is there has exactly one reply, before its
+-- events; one of a connection that is not there has none, and does nothing
+abbrev pub EachRequestHasOneReply : Type 0
+EachRequestHasOneReply =
+    (served : List ℕ) (m : Machine) (c : ℕ) (conn : Connection) (bytes : List ℕ) → find nat_cmp c m.conns ≡ Some conn
+    → IsAnswered c (header_of bytes) (step_with served m (Asked c bytes)).1
+
+abbrev pub StrangersHaveNoReply : Type 0
+StrangersHaveNoReply =
+    (served : List ℕ) (m : Machine) (c : ℕ) (bytes : List ℕ) → find nat_cmp c m.conns ≡ None → step_with served m (Asked c bytes) ≡ (m, [])
+
+-- EVENTS. Each one that a step sends is due
+abbrev pub EachEventIsDue : Type 0
+EachEventIsDue =
+    (served : List ℕ) (m : Machine) (item : Item)
+    → AllByRecursion (λ s. s.1.kind ≡ WATCH_EVENT → IsDue m (step_with served m item).0 s) (step_with served m item).1
+
+-- DROPS
+abbrev pub DropsTouchNobodyElse : Type 0
+DropsTouchNobodyElse = (served : List ℕ) (m : Machine) (c : ℕ) → IsDrop c m (step_with served m (Lost c))

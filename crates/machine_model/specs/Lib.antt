@@ -3,4 +3,5 @@ pub mod Transactions
 pub mod Machine
 pub mod History
 pub mod Serial
+pub mod Sends
 pub mod Laws

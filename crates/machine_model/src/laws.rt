@@ -1,7 +1,7 @@
 //! What follows from the definitions, in the words of the subject. A law is a function that does
 //! nothing: its clause is the law, and its proof is the proof of the law.
 
-ghost use Rattle.machine_model.specs.Laws.{EachTreeIsOne, CommitsAreSerial, FollowedRunsAreSerial, RunsKeepFollowed};
+ghost use Rattle.machine_model.specs.Laws.{EachTreeIsOne, CommitsAreSerial, FollowedRunsAreSerial, RunsKeepFollowed, EachRequestHasOneReply, StrangersHaveNoReply, EachEventIsDue, DropsTouchNobodyElse};
 
 /// In every state that a run from a new store reaches, the tree holds `/` and the parent of each of
 /// its other paths. So do the copy of each open transaction, and the tree that it sees.
@@ -19,4 +19,26 @@ pub fn commits_are_serial()
     ensures from_new { CommitsAreSerial }
     ensures from_followed { FollowedRunsAreSerial }
     ensures kept { RunsKeepFollowed }
+{}
+
+/// A request of a connection that is there is answered by exactly one reply, to that connection, with
+/// the request's own req_id and tx_id. Its type is the request's or ERROR, and it stands before all
+/// events that the same step sends. A request of a connection that is not there does nothing.
+pub fn each_request_has_one_reply()
+    ensures there { EachRequestHasOneReply }
+    ensures gone { StrangersHaveNoReply }
+{}
+
+/// An event of a change goes to a connection for a watch that it has, where the watch is on the event's
+/// path (or above it, where the event is broad), and where the connection may read the node: as it is
+/// after the change, or as it was before it where it is gone. Events of the special paths go to
+/// connections that act for domain 0 alone. Any other event is the first one of a watch just made.
+pub fn each_event_is_due()
+    ensures { EachEventIsDue }
+{}
+
+/// The loss of a connection sends nothing, and leaves the tree and every other connection as they
+/// were, with its watches and transactions.
+pub fn drops_touch_nobody_else()
+    ensures { DropsTouchNobodyElse }
 {}
