@@ -26,7 +26,7 @@ no_rest nearest (n ∷ ns) e = not_both refl (ap is_cons e)
     is_cons [] = false
     is_cons (p ∷ ps) = true
 
-at_nearest : (tree : Tree) (path nearest : Path) (absent : List Path) → Looked tree [] path nearest absent → absent ≡ [] → path ≡ nearest
+pub at_nearest : (tree : Tree) (path nearest : Path) (absent : List Path) → Looked tree [] path nearest absent → absent ≡ [] → path ≡ nearest
 at_nearest tree path nearest absent l e = l.to ∙ ap (λ ns. nearest ++ ns) (no_rest nearest l.rest (sym l.missed ∙ e)) ∙ append-nil nearest
 
 -- names count only where nothing is absent

@@ -17,17 +17,17 @@ use Rattle.xs_model.proofs.WayLemmas.{way_below, Looked, look_down}
 use Rattle.xs_model.proofs.TreeLemmas.{has_entries, set_present, create, remove}
 
 -- ANSWERS THAT CHANGE NOTHING
-shown-edits : (rights : Rights) (payload : List ℕ) → (shown rights payload).edits ≡ []
+pub shown-edits : (rights : Rights) (payload : List ℕ) → (shown rights payload).edits ≡ []
 shown-edits rights payload = elim rights.can_read as (λ b. (cond b (record { reply = sized payload; edits = [] }) (refusal Eacces)).edits ≡ []) [ true ↦ refl | false ↦ refl ]
 
-absent-edits : (rights : Rights) → (absent_refusal rights).edits ≡ []
+pub absent-edits : (rights : Rights) → (absent_refusal rights).edits ≡ []
 absent-edits rights = elim rights.can_read as (λ b. (cond b (refusal Enoent) (refusal Eacces)).edits ≡ []) [ true ↦ refl | false ↦ refl ]
 
-looked_up-edits : (rights : Rights) (payload : List ℕ) (absent : List Path) → (looked_up rights payload absent).edits ≡ []
+pub looked_up-edits : (rights : Rights) (payload : List ℕ) (absent : List Path) → (looked_up rights payload absent).edits ≡ []
 looked_up-edits rights payload [] = shown-edits rights payload
 looked_up-edits rights payload (p ∷ ps) = absent-edits rights
 
-rm_absent-edits : (rights : Rights) (absent : List Path) → (rm_absent rights absent).edits ≡ []
+pub rm_absent-edits : (rights : Rights) (absent : List Path) → (rm_absent rights absent).edits ≡ []
 rm_absent-edits rights [] = refl
 rm_absent-edits rights (p ∷ []) = elim rights.can_read as (λ b. (cond b (success []) (refusal Eacces)).edits ≡ []) [ true ↦ refl | false ↦ refl ]
 rm_absent-edits rights (p ∷ q ∷ ps) = absent-edits rights

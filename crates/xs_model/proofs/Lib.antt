@@ -8,3 +8,4 @@ pub mod PickLemmas
 pub mod AlikeLemmas
 pub mod AnswerLemmas
 pub mod ChangeLemmas
+pub mod RightLemmas

@@ -1,10 +1,21 @@
 //! What follows from the definitions, in the words of the subject. A law is a function that does
 //! nothing: its clause is the law, and its proof is the proof of the law.
 
-ghost use Rattle.xs_model.specs.Laws.{EachCommandKeepsTrees};
+ghost use Rattle.xs_model.specs.Laws.{EachCommandKeepsTrees, DataIsForReaders, RefusalsChangeNothing};
 
 /// A tree holds `/` and the parent of each of its other paths, and it still does so after any of the
 /// seven tree commands, whatever the answer was.
 pub fn each_command_keeps_trees()
     ensures { EachCommandKeepsTrees }
+{}
+
+/// What READ, DIRECTORY and GET_PERMS give is the value, the children or the entries of the node at
+/// their path, and they give it only to a caller that may read that node.
+pub fn data_is_for_readers()
+    ensures { DataIsForReaders }
+{}
+
+/// A command that is refused leaves the tree as it was.
+pub fn refusals_change_nothing()
+    ensures { RefusalsChangeNothing }
 {}
