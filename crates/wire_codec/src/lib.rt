@@ -8,7 +8,9 @@ mod head;
 pub mod laws;
 mod payload;
 mod request;
+#[cfg(test)]
+mod tests;
 
 pub use head::{read_header, write_message};
-pub use request::{read_request, Request, RequestErr, TreeCommand, TreeOp};
+pub use request::{Request, RequestErr, TreeCommand, TreeOp, read_request};
 pub use xs_model::message::{Header, WireErr, kind};

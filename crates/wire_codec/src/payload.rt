@@ -5,10 +5,9 @@ ghost use Rattle.xs_model.specs.Requests.{cut_string, one_string, one_path, is_e
 ghost use Rattle.xs_model.specs.Paths.{path_of};
 ghost use Rattle.wire_codec.specs.Codec.{cut_view, IsPathOf, IsOnePath};
 
+use crate::request::RequestErr;
 use std::alloc::Global;
 use xs_path::{Path, PathFault};
-
-use crate::request::RequestErr;
 
 /// The bytes before the first NUL, and those after it. O(the former).
 pub fn cut_string(payload: &[u8]) -> Option<(&[u8], &[u8])>

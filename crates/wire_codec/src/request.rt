@@ -4,13 +4,12 @@ ghost use Rattle.std.specs.Prelude.{◌≡◌, ◌≤◌};
 ghost use Rattle.xs_model.specs.Requests.{request_of, built_types, path_request, write_request, Read as read_operation, or_einval};
 ghost use Rattle.wire_codec.specs.Codec.{IsRequest};
 
+use crate::payload;
 use std::alloc::{AllocError, Global};
 use thiserror::Error;
 use xs_base::Bytes;
 use xs_model::message::{Header, kind};
 use xs_path::Path;
-
-use crate::payload;
 
 /// What a tree command does at its path. The commands that are built so far.
 #[derive(Debug, Drop)]
