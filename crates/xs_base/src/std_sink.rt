@@ -1,10 +1,11 @@
 //! A sink over a writer of std.
-ghost use Rattle.std.specs.Prelude.{◌≡◌, None};
+ghost use Rattle.std.specs.Prelude.{◌≡◌};
 
 use crate::{Failed, Sink};
 use std::io::Write;
 
-/// A writer. It tells nothing of the bytes: what a real file or pipe takes is outside of every contract.
+/// A writer. It tells of the bytes what the writer tells, and that is nothing where they leave the program: what a
+/// real file or pipe takes is trusted and in no contract.
 #[derive(Debug, Drop)]
 pub struct StdSink<W> {
     writer: W,
@@ -14,14 +15,15 @@ pub struct StdSink<W> {
 impl<W: Write> StdSink<W> {
     /// A sink that hands on to the writer.
     pub fn new(writer: W) -> StdSink<W>
-        ensures { ⟦<StdSink<W> as Sink>⟧.faults result ≡ 0 }
+        ensures written { ⟦<StdSink<W> as Sink>⟧.written result ≡ W.contents writer }
+        ensures faults { ⟦<StdSink<W> as Sink>⟧.faults result ≡ 0 }
     {
         StdSink { writer, faults: 0 }
     }
 }
 
 impl<W: Write> Sink for StdSink<W> {
-    ghost written = { λ _. None };
+    ghost written = { λ sink. W.contents sink.writer };
 
     ghost faults = { λ sink. sink.faults };
 

@@ -1,10 +1,11 @@
 //! A source over a reader of std.
-ghost use Rattle.std.specs.Prelude.{◌≡◌, None};
+ghost use Rattle.std.specs.Prelude.{◌≡◌};
 
 use crate::{Failed, Source};
 use std::io::Read;
 
-/// The bytes of a reader. It tells nothing of them: what a real file or pipe gives is outside of every contract.
+/// The bytes of a reader. It tells of them what the reader tells, and that is nothing where the bytes come from
+/// outside of the program: what a real file or pipe gives is trusted and in no contract.
 #[derive(Debug, Drop)]
 pub struct StdSource<R> {
     reader: R,
@@ -14,14 +15,15 @@ pub struct StdSource<R> {
 impl<R: Read> StdSource<R> {
     /// A source of what the reader gives.
     pub fn new(reader: R) -> StdSource<R>
-        ensures { ⟦<StdSource<R> as Source>⟧.faults result ≡ 0 }
+        ensures left { ⟦<StdSource<R> as Source>⟧.left result ≡ R.remaining reader }
+        ensures faults { ⟦<StdSource<R> as Source>⟧.faults result ≡ 0 }
     {
         StdSource { reader, faults: 0 }
     }
 }
 
 impl<R: Read> Source for StdSource<R> {
-    ghost left = { λ _. None };
+    ghost left = { λ source. R.remaining source.reader };
 
     ghost faults = { λ source. source.faults };
 

@@ -1,15 +1,17 @@
 -- What a command of domain 0 sees, does and answers, at a path that is there and at one that is not.
-use Rattle.std.proofs.Common.{◌≡◌, ℕ, suc, ◌+◌, ◌<◌, ◌≤◌, Bool, true, false, cond, nat_lt, List, [], ◌∷◌, ◌++◌, length, take, drop, refl, sym, ap, subst, ◌∙◌, Option, Some, None, Result, Ok, Err, is_some, map, arith}
-use Rattle.std.proofs.lemmas.List.{append-nil, append_assoc}
-use Rattle.xs_model.specs.declared.message.WireErr.{WireErr}
+use Rattle.std.proofs.Common.{◌≡◌, ℕ, Bool, true, false, cond, List, [], ◌∷◌, ◌++◌, refl, sym, ap, subst, ◌∙◌, Option, Some, None, Ok, Err, is_some}
+use Rattle.std.proofs.lemmas.Bool.{false≢true}
+use Rattle.std.proofs.lemmas.List.{append-nil}
 use Rattle.xs_model.specs.declared.message.WireErr.TheVariants.{Enoent}
 use Rattle.xs_model.specs.declared.perm.Perm.{Perm}
 use Rattle.xs_model.specs.Paths.{Path, Name, child, way_down}
-use Rattle.xs_model.specs.Trees.{Node, Tree, IsTree, node_at, is_present, all_below, Edit, edited, edited_at}
+use Rattle.xs_model.specs.Perms.{created_perms}
+use Rattle.xs_model.specs.Trees.{Node, Tree, IsTree, node_at, is_present, all_below, edited, edited_at}
 use Rattle.xs_model.specs.Messages.{ok_payload}
 use Rattle.xs_model.specs.Requests.{Operation, Read, Write}
-use Rattle.xs_model.specs.Commands.{absent_of, nearest_of, sized, creation, command, Sight, sight_on, outcome_of, answer}
-use Rattle.xs_model.proofs.WayLemmas.{way_below, way_down-is, present_above}
+use Rattle.xs_model.specs.Commands.{absent_of, nearest_of, node_or_empty, sized, creation, Sight, seen_names, sight_of, Outcome, outcome_of, answer}
+use Rattle.xs_model.proofs.Maps.{not_both}
+use Rattle.xs_model.proofs.WayLemmas.{way_below, way_down-is, present_above, look_down}
 use Rattle.xs_model.proofs.PathLemmas.{child-way}
 use Rattle.xs_drive.specs.Store.{control, Runs}
 
@@ -53,4 +55,73 @@ at_absent tree is above n rest h missing =
     record {
       absent = start.0 ∙ down.0 ∙ ap (λ b. cond b (absent_of tree (way_below (child above n) rest)) (child above n ∷ way_below (child above n) rest)) missing;
       nearest = start.1 ∙ down.1 ∙ ap (λ b. cond b (nearest_of tree (child above n) (way_below (child above n) rest)) above) missing;
+    }
+
+-- WHAT IS SEEN where the look down ends
+sight_at : (operation : Operation) (tree : Tree) (path above : Path) (rest : List Name) (node : Node) → EndsAt tree path above rest → node_at tree above ≡ Some node → sight_of operation tree path ≡ record { nearest = above; node = node; absent = way_below above rest; names = seen_names operation tree path }
+sight_at operation tree path above rest node ends is = λ i. record {
+  nearest = ends.nearest i;
+  node = node_or_empty ((ap (node_at tree) ends.nearest ∙ is) i);
+  absent = ends.absent i;
+  names = seen_names operation tree path;
+}
+
+outcome_seen : Operation → Tree → Path → Sight → Outcome
+outcome_seen operation tree path s = outcome_of tree s (answer operation control s path (all_below tree path))
+
+-- READ
+pub reads_present : (tree : Tree) → IsTree tree → (path : Path) (node : Node) → node_at tree path ≡ Some node → Runs Read path tree (sized node.value) tree
+unfolding outcome_seen
+reads_present tree is path node h =
+    let seen = sight_at Read tree path path [] node (at_present tree is path (ap is_some h)) h in
+    record {
+      replied = ap (λ (s : Sight). (outcome_seen Read tree path s).reply) seen;
+      left = ap (λ (s : Sight). (outcome_seen Read tree path s).tree) seen;
+    }
+
+reads_none : (tree : Tree) (path above : Path) (rest : List Name) (node : Node) → EndsAt tree path above rest → node_at tree above ≡ Some node → path ≡ above ++ rest → node_at tree path ≡ None → Runs Read path tree (Err Enoent) tree
+unfolding outcome_seen
+reads_none tree path above [] node ends is way missing =
+    absurd (not_both (ap is_some (ap (node_at tree) (way ∙ append-nil above) ∙ is)) (ap is_some missing))
+reads_none tree path above (n ∷ rest) node ends is way missing =
+    let seen = sight_at Read tree path above (n ∷ rest) node ends is in
+    record {
+      replied = ap (λ (s : Sight). (outcome_seen Read tree path s).reply) seen;
+      left = ap (λ (s : Sight). (outcome_seen Read tree path s).tree) seen;
+    }
+
+there : (tree : Tree) (p : Path) (found : Option Node) → node_at tree p ≡ found → is_some found ≡ true → (node : Node) × (node_at tree p ≡ Some node)
+there tree p None e h = absurd (false≢true h)
+there tree p (Some node) e h = (node, e)
+
+pub reads_absent : (tree : Tree) → IsTree tree → (path : Path) → node_at tree path ≡ None → Runs Read path tree (Err Enoent) tree
+reads_absent tree is path missing =
+    let looked = look_down tree is path in
+    let above = nearest_of tree [] (way_down [] path) in
+    let found = there tree above (node_at tree above) refl looked.present in
+    reads_none tree path above looked.rest found.0 (record { absent = looked.missed; nearest = refl }) found.1 looked.to missing
+
+-- WRITE
+same_perms : (perms : List Perm) → created_perms 0 perms ≡ perms
+same_perms [] = refl
+same_perms (p ∷ ps) = refl
+
+pub writes_present : (tree : Tree) → IsTree tree → (path : Path) (value : List ℕ) (node : Node) → node_at tree path ≡ Some node → Runs (Write value) path tree (Ok ok_payload) (edited_at tree path (Some (record { value = value; perms = node.perms })))
+unfolding outcome_seen
+writes_present tree is path value node h =
+    let seen = sight_at (Write value) tree path path [] node (at_present tree is path (ap is_some h)) h in
+    record {
+      replied = ap (λ (s : Sight). (outcome_seen (Write value) tree path s).reply) seen;
+      left = ap (λ (s : Sight). (outcome_seen (Write value) tree path s).tree) seen;
+    }
+
+pub writes_absent : (tree : Tree) → IsTree tree → (above : Path) (n : Name) (rest : List Name) (value : List ℕ) (node : Node) → node_at tree above ≡ Some node → is_present tree (child above n) ≡ false → Runs (Write value) (above ++ (n ∷ rest)) tree (Ok ok_payload) (edited tree (creation node.perms value (way_below above (n ∷ rest))))
+unfolding outcome_seen
+writes_absent tree is above n rest value node h missing =
+    let path : Path = above ++ (n ∷ rest) in
+    let seen = sight_at (Write value) tree path above (n ∷ rest) node (at_absent tree is above n rest (ap is_some h) missing) h in
+    record {
+      replied = ap (λ (s : Sight). (outcome_seen (Write value) tree path s).reply) seen;
+      left = ap (λ (s : Sight). (outcome_seen (Write value) tree path s).tree) seen
+          ∙ ap (λ perms. edited tree (creation perms value (way_below above (n ∷ rest)))) (same_perms node.perms);
     }

@@ -1,16 +1,18 @@
 -- What the store of this version stands for: the sequential store with domain 0's connection alone, which has neither
 -- watches nor transactions. This project's own.
-use Rattle.std.specs.Prelude.{◌≡◌, ℕ, List, [], Result, None}
+use Rattle.std.specs.Prelude.{◌≡◌, ℕ, ◌+◌, ◌≤◌, ◌<◌, Bool, true, false, List, [], ◌∷◌, ◌++◌, length, take, drop, ⊤, Result, Option, Some, None}
 use Rattle.xs_model.specs.declared.message.Header.{Header}
 use Rattle.xs_model.specs.declared.message.WireErr.{WireErr}
 use Rattle.xs_model.specs.Perms.{Caller}
-use Rattle.xs_model.specs.Paths.{Path}
-use Rattle.xs_model.specs.Trees.{Tree}
+use Rattle.xs_model.specs.Paths.{Path, Name, way_down}
+use Rattle.xs_model.specs.Perms.{new_root_perms}
+use Rattle.xs_model.specs.Trees.{Tree, Node, is_present}
+use Rattle.xs_model.specs.Messages.{message_bytes}
 use Rattle.xs_model.specs.Requests.{Operation, request_of, built_types}
 use Rattle.xs_model.specs.Commands.{command}
 use Rattle.machine_model.specs.declared.ConnSpec.TheVariants.{Ring}
 use Rattle.machine_model.specs.Connections.{Connection, fresh}
-use Rattle.machine_model.specs.Machine.{Machine, Asked, Done, act_or_refuse, built_step, new_machine}
+use Rattle.machine_model.specs.Machine.{Machine, Asked, Done, act_or_refuse, built_step, new_machine, reply_message}
 use Rattle.machine_model.specs.History.{sent_to}
 
 -- the machine of a tree
@@ -42,3 +44,33 @@ Answers old head payload reply new =
 pub record Runs (operation : Operation) (path : Path) (old : Tree) (reply : Result (List ℕ) WireErr) (new : Tree) : Type 0 where
   pub replied : (command operation path control old).reply ≡ reply
   pub left : (command operation path control old).tree ≡ new
+
+-- a command of domain 0 was answered by a message under this header
+pub record RunsTo (operation : Operation) (path : Path) (old : Tree) (head : Header) (bytes : List ℕ) (new : Tree) : Type 0 where
+  pub reply : Result (List ℕ) WireErr
+  pub runs : Runs operation path old reply new
+  pub spelled : bytes ≡ message_bytes (reply_message head reply)
+
+-- the deepest present path at or above a path, by its number of names
+pub record IsNearest (tree : Tree) (path : Path) (names : ℕ) : Type 0 where
+  pub within : names ≤ length path
+  pub present : is_present tree (take names path) ≡ true
+  pub below : names < length path → is_present tree (take (names + 1) path) ≡ false
+
+-- what is found at a path has the entries of a new store, as every node of this version
+abbrev pub IsFound : Bool → Option Node → Type 0
+IsFound true None = ⊥
+IsFound true (Some node) = node.perms ≡ new_root_perms
+IsFound false None = ⊤
+IsFound false (Some node) = ⊥
+
+-- the paths between the first so many names of a path and the path itself, in order
+abbrev pub LeadsDown : List Path → Path → ℕ → Type 0
+LeadsDown between path names = take names path ∷ (between ++ path ∷ []) ≡ way_down (take names path) (drop names path)
+
+-- a present path, and the paths that lead down from it, each below the one before
+pub record Leads (tree : Tree) (paths : List Path) : Type 0 where
+  pub above : Path
+  pub names : List Name
+  pub down : above ∷ paths ≡ way_down above names
+  pub present : is_present tree above ≡ true

@@ -1,0 +1,36 @@
+//! Plays a first script.
+
+ghost use Rattle.std.specs.Prelude.{◌≡◌, ◌≤◌, IfOk, length, All, option_map};
+ghost use Rattle.machine_model.specs.Machine.{new_machine};
+ghost use Rattle.world_model.specs.Lines.{lines_of};
+ghost use Rattle.world_model.specs.FirstScript.{first_messages, served_all};
+
+use crate::first_script::messages_of;
+use crate::print::push_served;
+use crate::store::Store;
+use std::alloc::Global;
+use xs_base::{Bytes, Items, NoMemory};
+
+/// The transcript of a script, if it is a first script. O(its length, and a search of the tree for each message).
+pub fn transcript_of(alloc: Global, text: &[u8]) -> Result<Option<Bytes>, NoMemory>
+    ensures { IfOk result (λ found. found ≡ option_map (served_all new_machine) (first_messages (lines_of text.now))) }
+{
+    match messages_of(alloc, text)? {
+        None => Ok(None),
+        Some(messages) => Ok(Some(served_lines(alloc, &messages)?)),
+    }
+}
+
+/// What is printed for messages that a new store serves.
+fn served_lines(alloc: Global, messages: &Items<Bytes>) -> Result<Bytes, NoMemory>
+    requires { All (λ message. 16 ≤ length message) messages.now }
+    ensures { IfOk result (λ lines. lines ≡ served_all new_machine messages.now) }
+{
+    let mut store = Store::new(alloc)?;
+    let mut lines = Bytes::new(alloc);
+    for message in messages.as_slice() {
+        let reply = store.serve(alloc, message.as_slice())?;
+        push_served(&mut lines, message.as_slice(), reply.as_slice())?;
+    }
+    Ok(lines)
+}
