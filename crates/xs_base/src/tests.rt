@@ -1,0 +1,157 @@
+//! Values from outside of the definitions, and each call once where it succeeds.
+use super::*;
+use std::io;
+use std::io::{Read, Write};
+use std::test::Fail;
+
+#[test]
+fn hexadecimal_digits(rt: HostRuntime) -> Result<(), Fail> {
+    let rows: [(&str, &[u8]); 3] = [("", &[]), ("00ff", &[0, 255]), ("FfaB", &[255, 171])];
+    for (text, want) in rows {
+        let bytes = read_hex(rt.alloc(), text.as_bytes())?;
+        assert_eq!(rt; bytes.as_slice(), want, "at {text}");
+    }
+    let faults = [
+        ("0", HexFault::Odd),
+        ("0g", HexFault::BadDigit { at: 1 }),
+        ("0g:", HexFault::BadDigit { at: 1 }),
+        ("/", HexFault::BadDigit { at: 0 }),
+    ];
+    for (text, want) in faults {
+        let fault = read_hex(rt.alloc(), text.as_bytes()).err();
+        assert_eq!(rt; fault, Some(want), "at {text}");
+    }
+    let mut line = Bytes::copy(rt.alloc(), b"x ")?;
+    push_hex(&mut line, &[0, 171, 255])?;
+    assert_eq!(rt; line.as_slice(), b"x 00abff".as_slice());
+    Ok(())
+}
+
+#[test]
+fn decimal_digits(rt: HostRuntime) -> Result<(), Fail> {
+    let rows = [
+        ("", 9, Err(NumFault::Empty)),
+        ("0", 0, Ok(0)),
+        ("007", 7, Ok(7)),
+        ("8", 7, Err(NumFault::TooLarge)),
+        ("12a:", 99, Err(NumFault::BadDigit { at: 2 })),
+        ("-1", 99, Err(NumFault::BadDigit { at: 0 })),
+        ("18446744073709551615", u64::MAX, Ok(u64::MAX)),
+        ("18446744073709551616", u64::MAX, Err(NumFault::TooLarge)),
+        ("00000000000000000001", 1, Ok(1)),
+        ("000000000000000000001", 1, Err(NumFault::TooLarge)),
+    ];
+    for (text, max, want) in rows {
+        assert_eq!(rt; read_decimal(text.as_bytes(), max), want, "at {text}");
+    }
+    let mut line = Bytes::new(rt.alloc());
+    for value in [0, 10, u64::MAX] {
+        push_decimal(&mut line, value)?;
+        line.push(b" ")?;
+    }
+    assert_eq!(rt; line.as_slice(), b"0 10 18446744073709551615 ".as_slice());
+    Ok(())
+}
+
+#[test]
+fn lists_grow(rt: HostRuntime) -> Result<(), Fail> {
+    let mut bytes = Bytes::from_vec(vec![in rt.alloc(); 1, 2]?);
+    bytes.push(&[3])?;
+    assert_eq!(rt; bytes, Bytes::copy(rt.alloc(), &[1, 2, 3])?);
+    assert!(rt; bytes.len() == 3 && !bytes.is_empty());
+    let mut calls = Calls::new(rt.alloc());
+    calls.push(7)?;
+    let copied = calls.copy()?;
+    assert_eq!(rt; copied.as_slice(), [7].as_slice());
+    assert!(rt; copied.len() == 1 && !copied.is_empty());
+    assert_eq!(rt; calls.at(0), Some(&7));
+    assert_eq!(rt; calls.at(1), None);
+    Ok(())
+}
+
+#[test]
+fn source_fails_in_mid_stream(rt: HostRuntime) -> Result<(), Fail> {
+    let mut fails = Calls::new(rt.alloc());
+    fails.push(1)?;
+    let mut source = MemSource::new(Bytes::copy(rt.alloc(), b"abcdefghij")?, fails);
+    let mut piece = [0; 4];
+    assert_eq!(rt; source.read(&mut piece), Ok(4));
+    assert_eq!(rt; source.read(&mut piece), Err(Failed));
+    assert_eq!(rt; source.read(&mut piece), Ok(4));
+    assert_eq!(rt; piece, *b"efgh");
+    assert_eq!(rt; source.read(&mut piece), Ok(2));
+    assert_eq!(rt; source.read(&mut piece), Ok(0));
+    Ok(())
+}
+
+#[test]
+fn sink_is_full(rt: HostRuntime) -> Result<(), Fail> {
+    let mut fails = Calls::new(rt.alloc());
+    fails.push(0)?;
+    let mut sink = MemSink::new(rt.alloc(), 5, fails)?;
+    assert_eq!(rt; sink.write(b"xyz"), Err(Failed));
+    assert_eq!(rt; sink.write(b"abc"), Ok(3));
+    assert_eq!(rt; sink.write(b"def"), Ok(2));
+    assert_eq!(rt; sink.write(b"f"), Err(Failed));
+    assert_eq!(rt; sink.write(b""), Ok(0));
+    assert_eq!(rt; sink.bytes(), b"abcde".as_slice());
+    Ok(())
+}
+
+#[test]
+fn sure_ends(rt: HostRuntime) -> Result<(), Fail> {
+    let mut source = SureSource::new(Bytes::copy(rt.alloc(), b"abc")?);
+    let mut piece = [0; 2];
+    assert_eq!(rt; source.read(&mut piece), Ok(2));
+    assert_eq!(rt; piece, *b"ab");
+    assert_eq!(rt; SureSink::new().write(b"abc"), Ok(3));
+    let mut vault = SureVault::new(rt.alloc());
+    assert!(rt; vault.get()?.is_empty());
+    vault.put(b"one")?;
+    vault.put(b"two")?;
+    assert_eq!(rt; vault.get()?.as_slice(), b"two".as_slice());
+    OpenGate.before_submit(1);
+    OpenGate.before_put(0);
+    Ok(())
+}
+
+// It gives an error first, and no bytes then.
+#[derive(Drop)]
+struct Faulty {
+    broken: bool,
+}
+
+impl Read for Faulty {
+    fn read(&mut self, _buf: &mut [u8]) -> io::Result<usize> {
+        if self.broken {
+            self.broken = false;
+            return Err(io::Error::from(io::ErrorKind::Other));
+        }
+        Ok(0)
+    }
+}
+
+impl Write for Faulty {
+    fn write(&mut self, _buf: &[u8]) -> io::Result<usize> {
+        Ok(0)
+    }
+
+    fn flush(&mut self) -> io::Result<()> {
+        Ok(())
+    }
+}
+
+#[test]
+fn ends_over_std(rt: HostRuntime) -> Result<(), Fail> {
+    let mut piece = [0; 4];
+    let mut source = StdSource::new(b"abc".as_slice());
+    assert_eq!(rt; source.read(&mut piece), Ok(3));
+    let mut source = StdSource::new(Faulty { broken: true });
+    assert_eq!(rt; source.read(&mut piece), Err(Failed));
+    assert_eq!(rt; source.read(&mut piece), Ok(0));
+    let mut sink = StdSink::new(Vec::new(rt.alloc()));
+    assert_eq!(rt; sink.write(b"abc"), Ok(3));
+    let mut sink = StdSink::new(Faulty { broken: false });
+    assert_eq!(rt; sink.write(b"abc"), Err(Failed));
+    Ok(())
+}
