@@ -80,74 +80,97 @@ pub data LineOf : Type 0 where
 abbrev pub one_event : Event → Result LineOf LineKind
 one_event event = Ok (Events (event ∷ []))
 
--- by the fields after the verb
-abbrev pub domain_verb : (ℕ → Result LineOf LineKind) → List (List ℕ) → Result LineOf LineKind
-domain_verb make [] = Err kind.Fields
-domain_verb make (d ∷ []) = domid_field d >>= make
-domain_verb make (d ∷ f ∷ fs) = Err kind.Fields
+-- exactly so many fields after the verb
+abbrev pub no_field : List (List ℕ) → Result (Unit {0}) LineKind
+no_field [] = Ok tt
+no_field (f ∷ fs) = Err kind.Fields
 
+abbrev pub one_field : List (List ℕ) → Result (List ℕ) LineKind
+one_field [] = Err kind.Fields
+one_field (f ∷ []) = Ok f
+one_field (f ∷ g ∷ fs) = Err kind.Fields
+
+abbrev pub two_fields : List (List ℕ) → Result (List ℕ × List ℕ) LineKind
+two_fields [] = Err kind.Fields
+two_fields (f ∷ []) = Err kind.Fields
+two_fields (f ∷ g ∷ []) = Ok (f, g)
+two_fields (f ∷ g ∷ h ∷ fs) = Err kind.Fields
+
+abbrev pub three_fields : List (List ℕ) → Result (List ℕ × List ℕ × List ℕ) LineKind
+three_fields [] = Err kind.Fields
+three_fields (f ∷ []) = Err kind.Fields
+three_fields (f ∷ g ∷ []) = Err kind.Fields
+three_fields (f ∷ g ∷ h ∷ []) = Ok (f, g, h)
+three_fields (f ∷ g ∷ h ∷ i ∷ fs) = Err kind.Fields
+
+-- `VERB D`
+abbrev pub domain_verb : (ℕ → List Event) → List (List ℕ) → Result LineOf LineKind
+domain_verb make fields = do
+  field ← one_field fields
+  domid ← domid_field field
+  Ok (Events (make domid))
+
+-- `VERB D N`
 abbrev pub count_verb : (ℕ → ℕ → Event) → List (List ℕ) → Result LineOf LineKind
-count_verb make [] = Err kind.Fields
-count_verb make (d ∷ []) = Err kind.Fields
-count_verb make (d ∷ n ∷ []) = do
-  domid ← domid_field d
-  max ← count_field n
+count_verb make fields = do
+  both ← two_fields fields
+  domid ← domid_field both.0
+  max ← count_field both.1
   one_event (make domid max)
-count_verb make (d ∷ n ∷ f ∷ fs) = Err kind.Fields
 
+-- `send D HEX`
 abbrev pub send_verb : List (List ℕ) → Result LineOf LineKind
-send_verb [] = Err kind.Fields
-send_verb (d ∷ []) = Err kind.Fields
-send_verb (d ∷ h ∷ []) = do
-  domid ← domid_field d
-  bytes ← hex_field h
+send_verb fields = do
+  both ← two_fields fields
+  domid ← domid_field both.0
+  bytes ← hex_field both.1
   one_event (Send domid bytes)
-send_verb (d ∷ h ∷ f ∷ fs) = Err kind.Fields
 
+-- `poke D WORD V`
 abbrev pub poke_verb : List (List ℕ) → Result LineOf LineKind
-poke_verb [] = Err kind.Fields
-poke_verb (d ∷ []) = Err kind.Fields
-poke_verb (d ∷ w ∷ []) = Err kind.Fields
-poke_verb (d ∷ w ∷ v ∷ []) = do
-  domid ← domid_field d
-  which ← which_field w
-  value ← word_field v
+poke_verb fields = do
+  all ← three_fields fields
+  domid ← domid_field all.0
+  which ← which_field all.1
+  value ← word_field all.2
   one_event (Poke domid which value)
-poke_verb (d ∷ w ∷ v ∷ f ∷ fs) = Err kind.Fields
 
+-- `handover`
 abbrev pub handover_verb : List (List ℕ) → Result LineOf LineKind
-handover_verb [] = one_event Handover
-handover_verb (f ∷ fs) = Err kind.Fields
+handover_verb fields = do
+  _none ← no_field fields
+  one_event Handover
 
+-- `resume HEX`
 abbrev pub resume_verb : List (List ℕ) → Result LineOf LineKind
-resume_verb [] = Err kind.Fields
-resume_verb (h ∷ []) = do
-  bytes ← hex_field h
+resume_verb fields = do
+  field ← one_field fields
+  bytes ← hex_field field
   Ok (Resume bytes)
-resume_verb (h ∷ f ∷ fs) = Err kind.Fields
 
+-- `domain D at I`
 abbrev pub domain_line : List (List ℕ) → Result LineOf LineKind
-domain_line [] = Err kind.Fields
-domain_line (d ∷ []) = Err kind.Fields
-domain_line (d ∷ w ∷ []) = Err kind.Fields
-domain_line (d ∷ w ∷ i ∷ []) = do
-  domid ← domid_field d
-  _at ← the_word (codes "at") w
-  start ← word_field i
+domain_line fields = do
+  all ← three_fields fields
+  domid ← domid_field all.0
+  _at ← the_word (codes "at") all.1
+  start ← word_field all.2
   Ok (Domain domid start)
-domain_line (d ∷ w ∷ i ∷ f ∷ fs) = Err kind.Fields
+
+abbrev pub alone : (ℕ → Event) → ℕ → List Event
+alone make d = make d ∷ []
 
 abbrev pub by_verb : List ℕ → List (List ℕ) → Result LineOf LineKind
 by_verb verb fields =
     if bytes_eq verb (codes "send") then send_verb fields
     else (if bytes_eq verb (codes "put") then count_verb Put fields
     else (if bytes_eq verb (codes "intake") then count_verb Intake fields
-    else (if bytes_eq verb (codes "do") then domain_verb (λ d. one_event (Do d)) fields
+    else (if bytes_eq verb (codes "do") then domain_verb (alone Do) fields
     else (if bytes_eq verb (codes "out") then count_verb Out fields
     else (if bytes_eq verb (codes "take") then count_verb Take fields
     else (if bytes_eq verb (codes "poke") then poke_verb fields
-    else (if bytes_eq verb (codes "page") then domain_verb (λ d. one_event (ShowPage d)) fields
-    else (if bytes_eq verb (codes "serve") then domain_verb (λ d. Ok (Events (serve d))) fields
+    else (if bytes_eq verb (codes "page") then domain_verb (alone ShowPage) fields
+    else (if bytes_eq verb (codes "serve") then domain_verb serve fields
     else (if bytes_eq verb (codes "handover") then handover_verb fields
     else (if bytes_eq verb (codes "domain") then domain_line fields
     else (if bytes_eq verb (codes "resume") then resume_verb fields else Err kind.Verb)))))))))))
