@@ -2,6 +2,7 @@
 #![tactic(auto)]
 
 pub mod cuts;
+pub mod faults;
 pub mod first;
 pub mod refusals;
 pub mod transactions;
