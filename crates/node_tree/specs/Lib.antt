@@ -1,0 +1,2 @@
+pub mod KeptTree
+pub mod Places
