@@ -6,3 +6,5 @@ pub mod Lists
 pub mod EventLemmas
 pub mod DueLemmas
 pub mod ReplyLemmas
+pub mod ClosedLemmas
+pub mod LimitLemmas

@@ -1,6 +1,6 @@
 -- The laws above the definitions of this crate, as statements. Each is proved of a function in `src/laws.rt`, for every
 -- list of served message types.
-use Rattle.std.specs.Prelude.{◌≡◌, ℕ, List, [], Some, None}
+use Rattle.std.specs.Prelude.{◌≡◌, ℕ, List, [], Some, None, Ok}
 use Rattle.std.specs.List.{AllByRecursion}
 use Rattle.std.specs.Ordering.{nat_cmp}
 use Rattle.std.specs.FinMap.{find}
@@ -9,9 +9,10 @@ use Rattle.xs_model.specs.Messages.{header_of}
 use Rattle.xs_model.specs.Trees.{IsTree}
 use Rattle.machine_model.specs.Transactions.{after}
 use Rattle.machine_model.specs.Connections.{Connection}
-use Rattle.machine_model.specs.Machine.{Machine, new_machine, Item, Asked, Lost, step_with}
+use Rattle.machine_model.specs.Machine.{Machine, new_machine, Item, Asked, Lost, start, step_with}
 use Rattle.machine_model.specs.History.{run_with, past_at_start}
 use Rattle.machine_model.specs.Serial.{EachOpen, IsFollowed, IsSerial}
+use Rattle.machine_model.specs.Limits.{IsWithinLimits, IsStarted}
 use Rattle.machine_model.specs.Sends.{IsAnswered, IsDue, IsDrop}
 
 -- the store after some items, from a start
@@ -61,3 +62,14 @@ EachEventIsDue =
 -- DROPS
 abbrev pub DropsTouchNobodyElse : Type 0
 DropsTouchNobodyElse = (served : List ℕ) (m : Machine) (c : ℕ) → IsDrop c m (step_with served m (Lost c))
+
+-- LIMITS. Each connection of a reached state is within them
+abbrev pub ConnectionsKeepLimits : Type 0
+ConnectionsKeepLimits = Reached (λ m. AllByRecursion (λ e. IsWithinLimits e.1) m.conns)
+
+-- START gives the least positive id that the connection has not open
+abbrev pub StartGivesLeastFree : Type 0
+StartGivesLeastFree =
+    Reached (λ m.
+    (c : ℕ) (conn : Connection) (tx : ℕ) (payload : List ℕ) → find nat_cmp c m.conns ≡ Some conn → (start m c conn tx).reply ≡ Ok payload
+    → IsStarted m c conn payload (start m c conn tx).machine)

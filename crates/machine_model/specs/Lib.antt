@@ -4,4 +4,5 @@ pub mod Machine
 pub mod History
 pub mod Serial
 pub mod Sends
+pub mod Limits
 pub mod Laws

@@ -1,7 +1,7 @@
 //! What follows from the definitions, in the words of the subject. A law is a function that does
 //! nothing: its clause is the law, and its proof is the proof of the law.
 
-ghost use Rattle.machine_model.specs.Laws.{EachTreeIsOne, CommitsAreSerial, FollowedRunsAreSerial, RunsKeepFollowed, EachRequestHasOneReply, StrangersHaveNoReply, EachEventIsDue, DropsTouchNobodyElse};
+ghost use Rattle.machine_model.specs.Laws.{EachTreeIsOne, CommitsAreSerial, FollowedRunsAreSerial, RunsKeepFollowed, EachRequestHasOneReply, StrangersHaveNoReply, EachEventIsDue, DropsTouchNobodyElse, ConnectionsKeepLimits, StartGivesLeastFree};
 
 /// In every state that a run from a new store reaches, the tree holds `/` and the parent of each of
 /// its other paths. So do the copy of each open transaction, and the tree that it sees.
@@ -41,4 +41,16 @@ pub fn each_event_is_due()
 /// were, with its watches and transactions.
 pub fn drops_touch_nobody_else()
     ensures { DropsTouchNobodyElse }
+{}
+
+/// In every state of a run from a new store, a guest has at most 10 open transactions and 128 watches,
+/// and a connection that acts for domain 0 at most 65535 open transactions. Their ids are positive, and
+/// each stands once.
+pub fn connections_keep_limits()
+    ensures { ConnectionsKeepLimits }
+{}
+
+/// TRANSACTION_START gives the least positive id that its connection has not open.
+pub fn start_gives_least_free()
+    ensures { StartGivesLeastFree }
 {}

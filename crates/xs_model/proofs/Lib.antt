@@ -9,3 +9,6 @@ pub mod AlikeLemmas
 pub mod AnswerLemmas
 pub mod ChangeLemmas
 pub mod RightLemmas
+pub mod LengthLemmas
+pub mod FormLemmas
+pub mod ShortLemmas

@@ -1,5 +1,5 @@
 -- Lists of entries in the order of their keys: std's facts in the form that the lemmas here take, and some more.
-use Rattle.std.specs.Prelude.{◌≡◌, Bool, true, false, cond, not, ◌&&◌, T, List, [], ◌∷◌, map, Option, Some, None, is_some}
+use Rattle.std.specs.Prelude.{◌≡◌, suc, ◌+◌, ◌≤◌, Bool, true, false, cond, not, ◌&&◌, T, List, [], ◌∷◌, length, map, Option, Some, None, is_some}
 use Rattle.std.specs.Bool.{passes}
 use Rattle.std.specs.Option.{unwrap_or, option_map}
 use Rattle.std.specs.List.{AllByRecursion}
@@ -8,8 +8,8 @@ use Rattle.std.specs.declared.cmp.Ordering.{Ordering}
 use Rattle.std.specs.declared.cmp.Ordering.TheVariants.{Less, Equal, Greater}
 use Rattle.std.specs.Cmp.{IsTotalOrder, eq_by_cmp_equiv, tied_itself, Equal-is}
 use Rattle.std.specs.FinMap.{find, put, is_sorted, IsAntisymmetric}
-use Rattle.std.specs.FinMap.Entries.{where_key, by_order, below_all, is_sorted-put, is_sorted-where_key, find-put, find-where_key, same_entries}
-use Rattle.std.proofs.Common.{sym, refl, ap, subst, ◌∙◌}
+use Rattle.std.specs.FinMap.Entries.{where_key, by_order, below_all, is_sorted-put, is_sorted-where_key, find-put, find-where_key, length-put, same_entries}
+use Rattle.std.proofs.Common.{sym, refl, ap, subst, ◌∙◌, suc-le-suc, zero-le, le_trans, le_of_lt, lt-suc_self}
 use Rattle.std.proofs.lemmas.Bool.{false≢true, and_parts}
 
 pub true_of : (b : Bool) → T b → b ≡ true
@@ -128,3 +128,49 @@ module _ {K X : Type 0} (R : K → K → Ordering) where
 
     pub same_maps : IsAntisymmetric R → (es fs : List (K × X)) → is_sorted R es ≡ true → is_sorted R fs ≡ true → ((q : K) → find R q es ≡ find R q fs) → es ≡ fs
     same_maps same es fs g h is = same_entries R o same es fs (passes _ g) (passes _ h) is
+
+-- what holds of each key
+module _ {K X : Type 0} (R : K → K → Ordering) (P : K → Type 0) where
+  pub keys_put : (k : K) (v : X) (es : List (K × X)) → P k → AllByRecursion (λ (e : K × X). P e.0) es → AllByRecursion (λ (e : K × X). P e.0) (put R k v es)
+  keys_put k v [] p h = (p, tt)
+  keys_put k v (e ∷ es) p h =
+      elim (R k e.0) as (λ o. AllByRecursion (λ (e : K × X). P e.0) (by_order o ((k, v) ∷ e ∷ es) ((e.0, v) ∷ es) (e ∷ put R k v es))) [
+        | Less ↦ (p, h)
+        | Equal ↦ (h.0, h.1)
+        | Greater ↦ (h.0, keys_put k v es p h.1)
+      ]
+
+  pub keys_where : (t : K → Bool) (es : List (K × X)) → AllByRecursion (λ (e : K × X). P e.0) es → AllByRecursion (λ (e : K × X). P e.0) (where_key R t es)
+  keys_where t [] h = tt
+  keys_where t (e ∷ es) h =
+      elim (t e.0) as (λ b. AllByRecursion (λ (e : K × X). P e.0) (cond b (e ∷ where_key R t es) (where_key R t es))) [
+        | true ↦ (h.0, keys_where t es h.1)
+        | false ↦ keys_where t es h.1
+      ]
+
+  pub keys_found : IsAntisymmetric R → (k : K) (es : List (K × X)) (x : X) → AllByRecursion (λ (e : K × X). P e.0) es → find R k es ≡ Some x → P k
+  keys_found same k [] x h = λ e. not_Some e
+  keys_found same k (f ∷ es) x h =
+      elim (eq_by_cmp R k f.0) as (λ b. eq_by_cmp R k f.0 ≡ b → cond b (Some f.1) (find R k es) ≡ Some x → P k) [
+        | true ↦ λ t e. subst P (sym (same k f.0 ((Equal-is (R k f.0)).0 t))) h.0
+        | false ↦ λ t e. keys_found same k es x h.1 e
+      ] refl
+
+pub keys_map : {K X Y : Type 0} (P : K → Type 0) (f : X → Y) (es : List (K × X)) → AllByRecursion (λ (e : K × X). P e.0) es → AllByRecursion (λ (e : K × Y). P e.0) (map (λ e. (e.0, f e.1)) es)
+keys_map P f [] h = tt
+keys_map P f (e ∷ es) h = (h.0, keys_map P f es h.1)
+
+-- how many entries there are
+module _ {K X : Type 0} (R : K → K → Ordering) where
+  pub length_put : IsTotalOrder R → (k : K) (v : X) (es : List (K × X)) → is_sorted R es ≡ true → length (put R k v es) ≡ cond (is_some (find R k es)) (length es) (length es + 1)
+  length_put o k v es h = length-put R o k v es (passes _ h)
+
+  pub length_where : (t : K → Bool) (es : List (K × X)) → length (where_key R t es) ≤ length es
+  length_where t [] = zero-le
+  length_where t (e ∷ es) =
+      let rest = length_where t es in
+      elim (t e.0) as (λ b. length (cond b (e ∷ where_key R t es) (where_key R t es)) ≤ suc (length es)) [ true ↦ suc-le-suc rest | false ↦ le_trans rest (le_of_lt (lt-suc_self (length es))) ]
+
+pub length_map : {X Y : Type 0} (f : X → Y) (xs : List X) → length (map f xs) ≡ length xs
+length_map f [] = refl
+length_map f (x ∷ xs) = ap suc (length_map f xs)
