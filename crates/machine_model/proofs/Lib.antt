@@ -8,3 +8,6 @@ pub mod DueLemmas
 pub mod ReplyLemmas
 pub mod ClosedLemmas
 pub mod LimitLemmas
+pub mod SizeLemmas
+pub mod WholeLemmas
+pub mod SendLemmas

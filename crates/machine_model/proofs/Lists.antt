@@ -1,7 +1,7 @@
 -- What holds of each element of a list that is made of others.
 use Rattle.std.specs.Prelude.{◌≡◌, ℕ, suc, zero, ◌<◌, Bool, true, false, cond, List, [], ◌∷◌, ◌++◌, length, map, slice_index_or, Option, Some, None}
 use Rattle.std.specs.List.{AllByRecursion, Contains, filter, filter_map, flat_map, cons_option}
-use Rattle.std.proofs.Common.{refl, ap, arith, suc-le-suc, zero-le, le_of_suc-le-suc}
+use Rattle.std.proofs.Common.{refl, subst, ap, arith, suc-le-suc, zero-le, le_of_suc-le-suc}
 
 pub contains_here : {X : Type 0} (x : X) (xs : List X) → Contains (x ∷ xs) x
 contains_here x xs = (0, suc-le-suc zero-le, refl)
@@ -55,3 +55,12 @@ module _ {X : Type 0} (P : X → Type 0) where
   pub all_weaker : (Q : X → Type 0) → ((x : X) → P x → Q x) → (xs : List X) → AllByRecursion P xs → AllByRecursion Q xs
   all_weaker Q to [] h = tt
   all_weaker Q to (x ∷ xs) h = (to x h.0, all_weaker Q to xs h.1)
+
+contained_at : {X : Type 0} (P : X → Type 0) (xs : List X) (k : ℕ) (x : X) → AllByRecursion P xs → k < length xs → slice_index_or xs k x ≡ x → P x
+contained_at P [] k x h l e = absurd (omega arith)
+contained_at P (y ∷ xs) zero x h l e = subst P e h.0
+contained_at P (y ∷ xs) (suc k) x h l e = contained_at P xs k x h.1 (le_of_suc-le-suc l) e
+
+-- what holds of each element holds of one that is contained
+pub contained : {X : Type 0} (P : X → Type 0) (xs : List X) (x : X) → AllByRecursion P xs → Contains xs x → P x
+contained P xs x h c = contained_at P xs c.0 x h c.1 c.2

@@ -6,6 +6,7 @@ use Rattle.std.specs.Ordering.{nat_cmp}
 use Rattle.std.specs.FinMap.{find}
 use Rattle.xs_model.specs.declared.message.kind.TheConstants.{WATCH_EVENT}
 use Rattle.xs_model.specs.Messages.{header_of}
+use Rattle.xs_model.specs.Laws.{HasShortPaths}
 use Rattle.xs_model.specs.Trees.{IsTree}
 use Rattle.machine_model.specs.Transactions.{after}
 use Rattle.machine_model.specs.Connections.{Connection}
@@ -13,6 +14,7 @@ use Rattle.machine_model.specs.Machine.{Machine, new_machine, Item, Asked, Lost,
 use Rattle.machine_model.specs.History.{run_with, past_at_start}
 use Rattle.machine_model.specs.Serial.{EachOpen, IsFollowed, IsSerial}
 use Rattle.machine_model.specs.Limits.{IsWithinLimits, IsStarted}
+use Rattle.machine_model.specs.Sizes.{IsOneMessage, IsSized}
 use Rattle.machine_model.specs.Sends.{IsAnswered, IsDue, IsDrop}
 
 -- the store after some items, from a start
@@ -73,3 +75,21 @@ StartGivesLeastFree =
     Reached (λ m.
     (c : ℕ) (conn : Connection) (tx : ℕ) (payload : List ℕ) → find nat_cmp c m.conns ≡ Some conn → (start m c conn tx).reply ≡ Ok payload
     → IsStarted m c conn payload (start m c conn tx).machine)
+
+-- SIZES. Each message that a step sends has at most 4096 bytes of payload and is one whole message: in every state of a
+-- run from a new store, and in any store whose paths and tokens are within their limits, which runs keep
+abbrev pub SendsWhole : Machine → Type 0
+SendsWhole m = (served : List ℕ) (item : Item) → AllByRecursion (λ s. IsOneMessage s.1) (step_with served m item).1
+
+abbrev pub EachMessageIsWhole : Type 0
+EachMessageIsWhole = Reached SendsWhole
+
+abbrev pub SizedStoresSendWhole : Type 0
+SizedStoresSendWhole = (m : Machine) → IsSized m → SendsWhole m
+
+abbrev pub RunsKeepSized : Type 0
+RunsKeepSized = (served : List ℕ) (start : Machine) (items : List Item) → IsSized start → IsSized (machine_after served start items)
+
+-- each path of a reached tree has a text of at most 3072 bytes
+abbrev pub EachPathIsShort : Type 0
+EachPathIsShort = Reached (λ m. HasShortPaths m.tree)

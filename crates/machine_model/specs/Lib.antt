@@ -5,4 +5,5 @@ pub mod History
 pub mod Serial
 pub mod Sends
 pub mod Limits
+pub mod Sizes
 pub mod Laws

@@ -1,7 +1,7 @@
 //! What follows from the definitions, in the words of the subject. A law is a function that does
 //! nothing: its clause is the law, and its proof is the proof of the law.
 
-ghost use Rattle.machine_model.specs.Laws.{EachTreeIsOne, CommitsAreSerial, FollowedRunsAreSerial, RunsKeepFollowed, EachRequestHasOneReply, StrangersHaveNoReply, EachEventIsDue, DropsTouchNobodyElse, ConnectionsKeepLimits, StartGivesLeastFree};
+ghost use Rattle.machine_model.specs.Laws.{EachTreeIsOne, CommitsAreSerial, FollowedRunsAreSerial, RunsKeepFollowed, EachRequestHasOneReply, StrangersHaveNoReply, EachEventIsDue, DropsTouchNobodyElse, ConnectionsKeepLimits, StartGivesLeastFree, EachMessageIsWhole, SizedStoresSendWhole, RunsKeepSized, EachPathIsShort};
 
 /// In every state that a run from a new store reaches, the tree holds `/` and the parent of each of
 /// its other paths. So do the copy of each open transaction, and the tree that it sees.
@@ -53,4 +53,20 @@ pub fn connections_keep_limits()
 /// TRANSACTION_START gives the least positive id that its connection has not open.
 pub fn start_gives_least_free()
     ensures { StartGivesLeastFree }
+{}
+
+/// Each message that a step sends, reply or event, has at most 4096 bytes of payload, and its bytes are
+/// one whole message: a header of 16 bytes and as many more as the header says.
+///
+/// This holds in every state of a run from a new store, and in any store whose paths, watches and
+/// tokens are within their limits; runs keep them so.
+pub fn each_message_is_whole()
+    ensures from_new { EachMessageIsWhole }
+    ensures from_sized { SizedStoresSendWhole }
+    ensures kept { RunsKeepSized }
+{}
+
+/// The text of each path of a tree that a run from a new store reaches has at most 3072 bytes.
+pub fn each_path_is_short()
+    ensures { EachPathIsShort }
 {}

@@ -1,12 +1,10 @@
--- What each request in its form has: short paths, short watches, and domains within their bound.
-use Rattle.std.specs.Prelude.{◌≡◌, ℕ, ◌<◌, ◌≤◌, ◌==◌, Bool, true, false, cond, not, ◌||◌, List, [], ◌∷◌, length, nat_lt, Option, Some, None, option_map, option_and_then, Result, Ok, Err, codes}
+-- What each request in its form has: short paths and short watches.
+use Rattle.std.specs.Prelude.{◌≡◌, ℕ, ◌≤◌, ◌==◌, Bool, true, false, cond, not, List, [], length, nat_lt, Option, Some, None, option_map, option_and_then, Result, Ok, Err, codes}
 use Rattle.std.specs.List.{list_any}
 use Rattle.std.specs.Str.{bytes_eq}
 use Rattle.std.proofs.Common.{refl, subst, ltb-false}
 use Rattle.std.proofs.lemmas.Bool.{not-true}
-use Rattle.text_model.specs.declared.NumFault.{NumFault}
-use Rattle.text_model.specs.declared.NumFault.TheVariants.{TooLarge}
-use Rattle.text_model.specs.Decimal.{number_of, number_unless, bad_digit_from, digits_number}
+use Rattle.text_model.specs.Decimal.{number_of}
 use Rattle.xs_model.specs.declared.message.WireErr.{WireErr}
 use Rattle.xs_model.specs.declared.message.WireErr.TheVariants.{Enosys}
 use Rattle.xs_model.specs.declared.message.kind.TheConstants.{DIRECTORY, READ, GET_PERMS, WATCH, UNWATCH, TRANSACTION_START, TRANSACTION_END, INTRODUCE, RELEASE, GET_DOMAIN_PATH, WRITE, MKDIR, RM, SET_PERMS, IS_DOMAIN_INTRODUCED, SET_TARGET, RESET_WATCHES}
@@ -14,7 +12,8 @@ use Rattle.xs_model.specs.Paths.{path_of}
 use Rattle.xs_model.specs.Messages.{string}
 use Rattle.xs_model.specs.Requests.{Operation, Directory, Read, GetPerms, Write, Mkdir, Rm, SetPerms, Request, Command, Watch, Unwatch, Start, End, Introduce, Release, DomainPath, IsIntroduced, SetTarget, ResetWatches, ok_value, when, cut_string, one_string, two_strings, domid_of, is_empty, is_watch_path, is_token, one_path, path_request, is_root, rm_request, write_request, set_perms_request, perms_of, watch_request, end_request, introduce_request, domid_request, release_request, target_request, asked, or_einval, request_of}
 use Rattle.xs_model.proofs.Maps.{not_Some, from_Some}
-use Rattle.xs_model.proofs.LengthLemmas.{IsShort, path_of-short, watch_path-short}
+use Rattle.xs_model.specs.Laws.{IsShort}
+use Rattle.xs_model.proofs.LengthLemmas.{path_of-short, watch_path-short}
 
 abbrev pub InForm : Request → Type 0
 InForm (Command operation path) = IsShort path
@@ -22,9 +21,9 @@ InForm (Watch wpath token) = (length wpath ≤ 3072) × (length token ≤ 1022)
 InForm (Unwatch wpath token) = Unit {0}
 InForm Start = Unit {0}
 InForm (End commit) = Unit {0}
-InForm (Introduce domid evtchn) = domid ≤ 32751
+InForm (Introduce domid evtchn) = Unit {0}
 InForm (Release domid) = Unit {0}
-InForm (DomainPath domid) = domid ≤ 32751
+InForm (DomainPath domid) = Unit {0}
 InForm (IsIntroduced domid) = Unit {0}
 InForm (SetTarget domid target) = Unit {0}
 InForm ResetWatches = Unit {0}
@@ -55,38 +54,24 @@ when_some : {A : Type 0} (b : Bool) (x y : A) → when b x ≡ Some y → (b ≡
 when_some true x y e = (refl, from_Some e)
 when_some false x y e = not_Some e
 
--- NUMBERS
-bounded_by : (max : ℕ) (text : List ℕ) (a b : Bool) → nat_lt max (digits_number 0 text) ≡ b → (n : ℕ) → ok_value {E = NumFault} (cond (a || b) (Err TooLarge) (Ok (digits_number 0 text))) ≡ Some n → n ≤ max
-bounded_by max text true b l n e = not_Some e
-bounded_by max text false true l n e = not_Some e
-bounded_by max text false false l n e = subst (λ k. k ≤ max) (from_Some e) (ltb-false max (digits_number 0 text) l)
-
-unless_by : (max : ℕ) (text : List ℕ) (bad : Option ℕ) (n : ℕ) → ok_value (number_unless bad max text) ≡ Some n → n ≤ max
-unless_by max text (Some at) n e = not_Some e
-unless_by max text None n e = bounded_by max text (nat_lt 20 (length text)) (nat_lt max (digits_number 0 text)) refl n e
-
-number-bound : (max : ℕ) (text : List ℕ) (n : ℕ) → ok_value (number_of max text) ≡ Some n → n ≤ max
-number-bound max [] n e = not_Some e
-number-bound max (b ∷ bs) n e = unless_by max (b ∷ bs) (bad_digit_from 0 (b ∷ bs)) n e
-
 -- PAYLOADS
-one_path-short : (payload : List ℕ) (domid : ℕ) → domid < 65536 → Always IsShort (one_path payload domid)
-one_path-short payload domid h = then_always (one_string payload) (λ bytes. ok_value (path_of bytes domid)) (λ bytes e. record { holds = path_of-short bytes domid h })
+one_path-short : (payload : List ℕ) (domid : ℕ) → Always IsShort (one_path payload domid)
+one_path-short payload domid = then_always (one_string payload) (λ bytes. ok_value (path_of bytes domid)) (λ bytes e. record { holds = path_of-short bytes domid })
 
-path_form : (operation : Operation) (payload : List ℕ) (domid : ℕ) → domid < 65536 → Always InForm (path_request operation payload domid)
-path_form operation payload domid h = map_always (one_path payload domid) (Command operation) (λ path e. (one_path-short payload domid h).holds path e)
+path_form : (operation : Operation) (payload : List ℕ) (domid : ℕ) → Always InForm (path_request operation payload domid)
+path_form operation payload domid = map_always (one_path payload domid) (Command operation) (λ path e. (one_path-short payload domid).holds path e)
 
-rm_form : (payload : List ℕ) (domid : ℕ) → domid < 65536 → Always InForm (rm_request payload domid)
-rm_form payload domid h = then_always (one_path payload domid) (λ path. when (not (is_root path)) (Command Rm path)) (λ path e. if_always (not (is_root path)) (always_Some (Command Rm path) ((one_path-short payload domid h).holds path e)) always_None)
+rm_form : (payload : List ℕ) (domid : ℕ) → Always InForm (rm_request payload domid)
+rm_form payload domid = then_always (one_path payload domid) (λ path. when (not (is_root path)) (Command Rm path)) (λ path e. if_always (not (is_root path)) (always_Some (Command Rm path) ((one_path-short payload domid).holds path e)) always_None)
 
-write_form : (payload : List ℕ) (domid : ℕ) → domid < 65536 → Always InForm (write_request payload domid)
-write_form payload domid h =
-    then_always (cut_string payload) _ (λ first e. then_always (ok_value (path_of first.0 domid)) _ (λ path f. always_Some (Command (Write first.1) path) (path_of-short first.0 domid h path f)))
+write_form : (payload : List ℕ) (domid : ℕ) → Always InForm (write_request payload domid)
+write_form payload domid =
+    then_always (cut_string payload) _ (λ first e. then_always (ok_value (path_of first.0 domid)) _ (λ path f. always_Some (Command (Write first.1) path) (path_of-short first.0 domid path f)))
 
-set_perms_form : (payload : List ℕ) (domid : ℕ) → domid < 65536 → Always InForm (set_perms_request payload domid)
-set_perms_form payload domid h =
+set_perms_form : (payload : List ℕ) (domid : ℕ) → Always InForm (set_perms_request payload domid)
+set_perms_form payload domid =
     then_always (cut_string payload) _ (λ first e. then_always (ok_value (path_of first.0 domid)) _ (λ path f. then_always (perms_of [] first.1) _ (λ perms g.
-    always_Some (Command (SetPerms perms) path) (path_of-short first.0 domid h path f))))
+    always_Some (Command (SetPerms perms) path) (path_of-short first.0 domid path f))))
 
 watch_short : (path bytes wpath token : List ℕ) (domid : ℕ) → when (is_watch_path path domid) path ≡ Some wpath → when (is_token bytes) bytes ≡ Some token → (length wpath ≤ 3072) × (length token ≤ 1022)
 watch_short path bytes wpath token domid e f =
@@ -109,10 +94,10 @@ introduce_form : (payload : List ℕ) → Always InForm (introduce_request paylo
 introduce_form payload =
     then_always (two_strings payload) _ (λ both e. then_always (cut_string both.2) _ (λ third f. then_always (domid_of both.0) _ (λ domid g.
     then_always (ok_value (number_of 18446744073709551615 both.1)) _ (λ gfn i. then_always (ok_value (number_of 4294967295 third.0)) _ (λ evtchn j.
-    always_Some (Introduce domid evtchn) (number-bound 32751 both.0 domid g))))))
+    always_Some (Introduce domid evtchn) tt)))))
 
 domain_path_form : (payload : List ℕ) → Always InForm (domid_request DomainPath payload)
-domain_path_form payload = then_always (one_string payload) _ (λ bytes e. then_always (domid_of bytes) _ (λ domid f. always_Some (DomainPath domid) (number-bound 32751 bytes domid f)))
+domain_path_form payload = then_always (one_string payload) _ (λ bytes e. then_always (domid_of bytes) _ (λ domid f. always_Some (DomainPath domid) tt))
 
 is_introduced_form : (payload : List ℕ) → Always InForm (domid_request IsIntroduced payload)
 is_introduced_form payload = then_always (one_string payload) _ (λ bytes e. then_always (domid_of bytes) _ (λ domid f. always_Some (IsIntroduced domid) tt))
@@ -124,11 +109,11 @@ target_form : (payload : List ℕ) → Always InForm (target_request payload)
 target_form payload =
     then_always (two_strings payload) _ (λ both e. then_always (when (is_empty both.2) both.2) _ (λ last f. then_always (domid_of both.0) _ (λ domid g. then_always (domid_of both.1) _ (λ target i. always_Some (SetTarget domid target) tt))))
 
-asked_form : (kind : ℕ) (payload : List ℕ) (domid : ℕ) → domid < 65536 → Always InForm (asked kind payload domid)
-asked_form kind payload domid h =
-    if_always (kind == DIRECTORY) (path_form Directory payload domid h) (
-    if_always (kind == READ) (path_form Read payload domid h) (
-    if_always (kind == GET_PERMS) (path_form GetPerms payload domid h) (
+asked_form : (kind : ℕ) (payload : List ℕ) (domid : ℕ) → Always InForm (asked kind payload domid)
+asked_form kind payload domid =
+    if_always (kind == DIRECTORY) (path_form Directory payload domid) (
+    if_always (kind == READ) (path_form Read payload domid) (
+    if_always (kind == GET_PERMS) (path_form GetPerms payload domid) (
     if_always (kind == WATCH) (watch_form payload domid) (
     if_always (kind == UNWATCH) (unwatch_form payload domid) (
     if_always (kind == TRANSACTION_START) (always_Some Start tt) (
@@ -136,10 +121,10 @@ asked_form kind payload domid h =
     if_always (kind == INTRODUCE) (introduce_form payload) (
     if_always (kind == RELEASE) (release_form payload) (
     if_always (kind == GET_DOMAIN_PATH) (domain_path_form payload) (
-    if_always (kind == WRITE) (write_form payload domid h) (
-    if_always (kind == MKDIR) (path_form Mkdir payload domid h) (
-    if_always (kind == RM) (rm_form payload domid h) (
-    if_always (kind == SET_PERMS) (set_perms_form payload domid h) (
+    if_always (kind == WRITE) (write_form payload domid) (
+    if_always (kind == MKDIR) (path_form Mkdir payload domid) (
+    if_always (kind == RM) (rm_form payload domid) (
+    if_always (kind == SET_PERMS) (set_perms_form payload domid) (
     if_always (kind == IS_DOMAIN_INTRODUCED) (is_introduced_form payload) (
     if_always (kind == SET_TARGET) (target_form payload) (
     if_always (kind == RESET_WATCHES) (always_Some ResetWatches tt) always_None))))))))))))))))
@@ -153,9 +138,9 @@ or_einval_form : (o : Option Request) → Always InForm o → IfAsked InForm (or
 or_einval_form None h = tt
 or_einval_form (Some request) h = h.holds request refl
 
-served_form : (b : Bool) (kind : ℕ) (payload : List ℕ) (domid : ℕ) → domid < 65536 → IfAsked InForm (cond b (or_einval (asked kind payload domid)) (Err Enosys))
-served_form true kind payload domid h = or_einval_form (asked kind payload domid) (asked_form kind payload domid h)
-served_form false kind payload domid h = tt
+served_form : (b : Bool) (kind : ℕ) (payload : List ℕ) (domid : ℕ) → IfAsked InForm (cond b (or_einval (asked kind payload domid)) (Err Enosys))
+served_form true kind payload domid = or_einval_form (asked kind payload domid) (asked_form kind payload domid)
+served_form false kind payload domid = tt
 
-pub request_of-form : (served : List ℕ) (kind : ℕ) (payload : List ℕ) (domid : ℕ) → domid < 65536 → IfAsked InForm (request_of served kind payload domid)
-request_of-form served kind payload domid h = served_form (list_any (λ t. t == kind) served) kind payload domid h
+pub request_of-form : (served : List ℕ) (kind : ℕ) (payload : List ℕ) (domid : ℕ) → IfAsked InForm (request_of served kind payload domid)
+request_of-form served kind payload domid = served_form (list_any (λ t. t == kind) served) kind payload domid

@@ -1,25 +1,24 @@
 -- Commands at short paths keep each path of a tree short.
-use Rattle.std.specs.Prelude.{◌≡◌, ℕ, Bool, true, false, cond, not, ◌||◌, List, [], ◌∷◌, ◌++◌, Option, Some, None, is_some, map}
+use Rattle.std.specs.Prelude.{◌≡◌, ℕ, Bool, true, false, cond, not, ◌||◌, List, [], ◌∷◌, ◌++◌, Option, Some, None, is_some, map, ◌≤◌, nat_lt, length, Result, Ok, Err}
 use Rattle.std.specs.List.{AllByRecursion}
-use Rattle.std.proofs.Common.{sym, refl, ap, subst, ◌∙◌, le_trans}
+use Rattle.std.proofs.Common.{sym, refl, ap, subst, ◌∙◌, le_trans, arith, ltb-false}
 use Rattle.xs_model.specs.declared.perm.Perm.{Perm}
 use Rattle.xs_model.specs.declared.perm.Rights.{Rights}
-use Rattle.xs_model.specs.declared.message.WireErr.TheVariants.{Einval, Eacces}
+use Rattle.xs_model.specs.declared.message.WireErr.TheVariants.{Einval, Eacces, Enoent, E2big}
+use Rattle.xs_model.specs.declared.message.WireErr.{WireErr}
+use Rattle.xs_model.specs.declared.message.TheConstants.{PAYLOAD_MAX}
 use Rattle.xs_model.specs.Paths.{Name, Path, same_path, child, way_down}
 use Rattle.xs_model.specs.Perms.{Caller, rights_of, created_perms, perm_text}
 use Rattle.xs_model.specs.Messages.{strings}
 use Rattle.xs_model.specs.Trees.{Node, Tree, node_at, is_present, all_below, Edit, edited_at, edited}
 use Rattle.xs_model.specs.Requests.{Operation, Directory, Read, GetPerms, Write, Mkdir, Rm, SetPerms}
-use Rattle.xs_model.specs.Commands.{Sight, sight_of, Answer, refusal, success, looked_up, absent_refusal, written_by, creation, write_edits, mkdir_edits, removals, rm_absent, rm_answer, set_perms_answer, gives_away, permitted, answer, is_out_of_form, command, absent_of}
+use Rattle.xs_model.specs.Commands.{Sight, sight_of, Answer, refusal, success, sized, looked_up, absent_refusal, written_by, creation, write_edits, mkdir_edits, removals, rm_absent, rm_answer, set_perms_answer, gives_away, permitted, answer, is_out_of_form, command, absent_of}
 use Rattle.xs_model.proofs.Maps.{not_both}
 use Rattle.xs_model.proofs.PathLemmas.{same_path-is, child-way}
 use Rattle.xs_model.proofs.EditLemmas.{node_at-edited_at}
 use Rattle.xs_model.proofs.CommandLemmas.{looked_up-edits, absent-edits, rm_absent-edits}
-use Rattle.xs_model.proofs.LengthLemmas.{IsShort, shorter_above}
-
--- each path of a tree is short
-abbrev pub ShortTree : Tree → Type 0
-ShortTree tree = (p : Path) → is_present tree p ≡ true → IsShort p
+use Rattle.xs_model.specs.Laws.{IsShort, HasShortPaths}
+use Rattle.xs_model.proofs.LengthLemmas.{shorter_above}
 
 -- an edit that sets a node is at a short path
 abbrev pub ShortEdit : Path → Option Node → Type 0
@@ -34,10 +33,10 @@ set_short p q None old true e s to h = not_both h refl
 set_short p q (Some node) old true e s to h = subst IsShort (sym (same_path-is q p e)) s
 set_short p q new old false e s to h = to h
 
-edit_short : (tree : Tree) (p : Path) (new : Option Node) → ShortTree tree → ShortEdit p new → ShortTree (edited_at tree p new)
+edit_short : (tree : Tree) (p : Path) (new : Option Node) → HasShortPaths tree → ShortEdit p new → HasShortPaths (edited_at tree p new)
 edit_short tree p new short s q h = set_short p q new (node_at tree q) (same_path q p) refl s (short q) (sym (ap is_some (node_at-edited_at tree p new q)) ∙ h)
 
-pub edits_short : (tree : Tree) (es : List Edit) → ShortTree tree → ShortEdits es → ShortTree (edited tree es)
+pub edits_short : (tree : Tree) (es : List Edit) → HasShortPaths tree → ShortEdits es → HasShortPaths (edited tree es)
 edits_short tree [] short s = short
 edits_short tree (e ∷ es) short s = edits_short (edited_at tree e.0 e.1) es (edit_short tree e.0 e.1 short s.0) s.1
 
@@ -96,10 +95,65 @@ module _ (caller : Caller) (rights : Rights) (sight : Sight) (path : Path) (shor
   permitted_short Rm below h = rm_short sight.absent below
   permitted_short (SetPerms perms) below h = set_perms_short perms sight.absent
 
-pub command_short : (operation : Operation) (path : Path) (caller : Caller) (tree : Tree) → IsShort path → ShortTree tree → ShortTree (command operation path caller tree).tree
+pub command_short : (operation : Operation) (path : Path) (caller : Caller) (tree : Tree) → IsShort path → HasShortPaths tree → HasShortPaths (command operation path caller tree).tree
 command_short operation path caller tree short h =
     let sight : Sight = sight_of operation tree path in
     let rights : Rights = rights_of caller sight.node.perms in
     edits_short tree (answer operation caller sight path (all_below tree path)).edits h
     (if_short (is_out_of_form operation path) (refusal Einval) (permitted operation caller rights sight path (all_below tree path)) tt
     (permitted_short caller rights sight path short operation (all_below tree path) (absent_short tree (way_down [] path) (way_short [] path short))))
+
+-- REPLIES
+abbrev pub IsShortReply : Result (List ℕ) WireErr → Type 0
+IsShortReply (Ok payload) = length payload ≤ 4096
+IsShortReply (Err error) = Unit {0}
+
+if_reply : (b : Bool) (x y : Answer) → IsShortReply x.reply → IsShortReply y.reply → IsShortReply (cond b x y).reply
+if_reply true x y p q = p
+if_reply false x y p q = q
+
+sized_by : (payload : List ℕ) (b : Bool) → nat_lt PAYLOAD_MAX (length payload) ≡ b → IsShortReply (cond b (Err E2big) (Ok payload))
+sized_by payload true e = tt
+sized_by payload false e = ltb-false PAYLOAD_MAX (length payload) e
+
+absent_reply : (rights : Rights) → IsShortReply (absent_refusal rights).reply
+absent_reply rights = if_reply rights.can_read (refusal Enoent) (refusal Eacces) tt tt
+
+looked_up_reply : (rights : Rights) (payload : List ℕ) (absent : List Path) → IsShortReply (looked_up rights payload absent).reply
+looked_up_reply rights payload [] = if_reply rights.can_read (record { reply = sized payload; edits = [] }) (refusal Eacces) (sized_by payload (nat_lt PAYLOAD_MAX (length payload)) refl) tt
+looked_up_reply rights payload (p ∷ ps) = absent_reply rights
+
+ok_short : (es : List Edit) → IsShortReply (success es).reply
+ok_short es = omega arith
+
+written_reply : (rights : Rights) (es : List Edit) → IsShortReply (written_by rights es).reply
+written_reply rights es = if_reply rights.can_write (success es) (refusal Eacces) (ok_short es) tt
+
+rm_reply : (rights : Rights) (absent below : List Path) → IsShortReply (rm_answer rights absent below).reply
+rm_reply rights [] below = written_reply rights (removals below)
+rm_reply rights (p ∷ []) below = if_reply rights.can_read (success []) (refusal Eacces) (ok_short []) tt
+rm_reply rights (p ∷ q ∷ ps) below = absent_reply rights
+
+set_perms_reply : (caller : Caller) (rights : Rights) (node : Node) (perms : List Perm) (path : Path) (absent : List Path) → IsShortReply (set_perms_answer caller rights node perms path absent).reply
+set_perms_reply caller rights node perms path [] =
+    let es : List Edit = (path, Some (record { value = node.value; perms = perms })) ∷ [] in
+    if_reply (not rights.owner || gives_away caller node.perms perms) (refusal Eacces) (success es) tt (ok_short es)
+set_perms_reply caller rights node perms path (p ∷ ps) = absent_reply rights
+
+permitted_reply : (operation : Operation) (caller : Caller) (rights : Rights) (sight : Sight) (path : Path) (below : List Path) → IsShortReply (permitted operation caller rights sight path below).reply
+permitted_reply Directory caller rights sight path below = looked_up_reply rights (strings sight.names) sight.absent
+permitted_reply Read caller rights sight path below = looked_up_reply rights sight.node.value sight.absent
+permitted_reply GetPerms caller rights sight path below = looked_up_reply rights (strings (map perm_text sight.node.perms)) sight.absent
+permitted_reply (Write value) caller rights sight path below = written_reply rights (write_edits caller sight value path sight.absent)
+permitted_reply Mkdir caller rights sight path below = written_reply rights (mkdir_edits caller sight sight.absent)
+permitted_reply Rm caller rights sight path below = rm_reply rights sight.absent below
+permitted_reply (SetPerms perms) caller rights sight path below = set_perms_reply caller rights sight.node perms path sight.absent
+
+pub command_reply : (operation : Operation) (path : Path) (caller : Caller) (tree : Tree) → IsShortReply (command operation path caller tree).reply
+command_reply operation path caller tree =
+    let sight : Sight = sight_of operation tree path in
+    let rights : Rights = rights_of caller sight.node.perms in
+    if_reply (is_out_of_form operation path) (refusal Einval) (permitted operation caller rights sight path (all_below tree path)) tt (permitted_reply operation caller rights sight path (all_below tree path))
+
+pub reply_short : (operation : Operation) (path : Path) (caller : Caller) (tree : Tree) (payload : List ℕ) → (command operation path caller tree).reply ≡ Ok payload → length payload ≤ 4096
+reply_short operation path caller tree payload e = subst IsShortReply e (command_reply operation path caller tree)

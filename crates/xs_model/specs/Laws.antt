@@ -1,9 +1,9 @@
 -- The laws above the definitions of this crate, as statements. Each is proved of a function in `src/laws.rt`.
-use Rattle.std.specs.Prelude.{◌≡◌, ℕ, Bool, true, false, List, [], Some, Ok, Err, map}
+use Rattle.std.specs.Prelude.{◌≡◌, ◌≤◌, length, ℕ, Bool, true, false, List, [], Some, Ok, Err, map}
 use Rattle.xs_model.specs.declared.message.WireErr.{WireErr}
-use Rattle.xs_model.specs.Paths.{Path}
+use Rattle.xs_model.specs.Paths.{Path, text, path_of}
 use Rattle.xs_model.specs.Perms.{Caller, rights_of, perm_text}
-use Rattle.xs_model.specs.Trees.{Node, Tree, node_at, children, IsTree}
+use Rattle.xs_model.specs.Trees.{Node, Tree, node_at, is_present, children, IsTree}
 use Rattle.xs_model.specs.Messages.{strings}
 use Rattle.xs_model.specs.Requests.{Operation, Directory, Read, GetPerms, Write, Mkdir, Rm, SetPerms}
 use Rattle.xs_model.specs.Commands.{command}
@@ -12,6 +12,28 @@ use Rattle.xs_model.specs.Commands.{command}
 abbrev pub EachCommandKeepsTrees : Type 0
 EachCommandKeepsTrees =
     (operation : Operation) (path : Path) (caller : Caller) (tree : Tree) → IsTree tree → IsTree (command operation path caller tree).tree
+
+-- SIZES. A path whose text is within the limit of absolute paths
+abbrev pub IsShort : Path → Type 0
+IsShort p = length (text p) ≤ 3072
+
+-- each path of a tree is short
+abbrev pub HasShortPaths : Tree → Type 0
+HasShortPaths tree = (p : Path) → is_present tree p ≡ true → IsShort p
+
+abbrev pub SpelledPathsAreShort : Type 0
+SpelledPathsAreShort = (bytes : List ℕ) (domid : ℕ) (p : Path) → path_of bytes domid ≡ Ok p → IsShort p
+
+abbrev pub EachCommandKeepsPathsShort : Type 0
+EachCommandKeepsPathsShort =
+    (operation : Operation) (path : Path) (caller : Caller) (tree : Tree) → IsShort path → HasShortPaths tree
+    → HasShortPaths (command operation path caller tree).tree
+
+-- a reply payload of a command has at most 4096 bytes
+abbrev pub EachReplyIsShort : Type 0
+EachReplyIsShort =
+    (operation : Operation) (path : Path) (caller : Caller) (tree : Tree) (payload : List ℕ)
+    → (command operation path caller tree).reply ≡ Ok payload → length payload ≤ 4096
 
 -- RIGHTS. The commands that give data
 abbrev pub is_reading : Operation → Bool

@@ -1,12 +1,25 @@
 //! What follows from the definitions, in the words of the subject. A law is a function that does
 //! nothing: its clause is the law, and its proof is the proof of the law.
 
-ghost use Rattle.xs_model.specs.Laws.{EachCommandKeepsTrees, DataIsForReaders, RefusalsChangeNothing};
+ghost use Rattle.xs_model.specs.Laws.{EachCommandKeepsTrees, SpelledPathsAreShort, EachCommandKeepsPathsShort, EachReplyIsShort, DataIsForReaders, RefusalsChangeNothing};
 
 /// A tree holds `/` and the parent of each of its other paths, and it still does so after any of the
 /// seven tree commands, whatever the answer was.
 pub fn each_command_keeps_trees()
     ensures { EachCommandKeepsTrees }
+{}
+
+/// The text of each path that bytes of a request spell has at most 3072 bytes, a relative one's with its
+/// domain's home before it. A command at such a path on a tree of such paths leaves a tree of such
+/// paths.
+pub fn paths_are_short()
+    ensures spelled { SpelledPathsAreShort }
+    ensures kept { EachCommandKeepsPathsShort }
+{}
+
+/// A command's reply has at most 4096 bytes of payload.
+pub fn each_reply_is_short()
+    ensures { EachReplyIsShort }
 {}
 
 /// What READ, DIRECTORY and GET_PERMS give is the value, the children or the entries of the node at
