@@ -62,6 +62,7 @@ fn lists_grow(rt: HostRuntime) -> Result<(), Fail> {
     let mut calls = Calls::new(rt.alloc());
     calls.push(7)?;
     let copied = calls.copy()?;
+    assert_eq!(rt; copied, calls);
     assert_eq!(rt; copied.as_slice(), [7].as_slice());
     assert!(rt; copied.len() == 1 && !copied.is_empty());
     assert_eq!(rt; calls.at(0), Some(&7));
