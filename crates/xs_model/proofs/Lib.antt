@@ -12,3 +12,5 @@ pub mod RightLemmas
 pub mod LengthLemmas
 pub mod FormLemmas
 pub mod ShortLemmas
+pub mod OrderLemmas
+pub mod NameLemmas

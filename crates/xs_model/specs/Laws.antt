@@ -1,12 +1,49 @@
 -- The laws above the definitions of this crate, as statements. Each is proved of a function in `src/laws.rt`.
-use Rattle.std.specs.Prelude.{◌≡◌, ◌≤◌, length, ℕ, Bool, true, false, List, [], Some, Ok, Err, map}
+use Rattle.std.specs.Prelude.{◌≡◌, ◌≤◌, length, ◌+◌, ◌<◌, ◌==◌, ◌≢◌, if◌then◌else◌, ℕ, Bool, true, false, List, [], Some, Ok, Err, map}
+use Rattle.std.specs.List.{AllByRecursion}
+use Rattle.std.specs.Ordering.{nat_cmp, is_le}
+use Rattle.std.specs.Cmp.Lexicographic.{slice_cmp}
+use Rattle.std.specs.declared.cmp.Ordering.{Ordering}
 use Rattle.xs_model.specs.declared.message.WireErr.{WireErr}
-use Rattle.xs_model.specs.Paths.{Path, text, path_of}
+use Rattle.xs_model.specs.Paths.{Path, Name, path_cmp, is_below, text, path_of}
 use Rattle.xs_model.specs.Perms.{Caller, rights_of, perm_text}
 use Rattle.xs_model.specs.Trees.{Node, Tree, node_at, is_present, children, IsTree}
 use Rattle.xs_model.specs.Messages.{strings}
 use Rattle.xs_model.specs.Requests.{Operation, Directory, Read, GetPerms, Write, Mkdir, Rm, SetPerms}
 use Rattle.xs_model.specs.Commands.{command}
+
+-- ORDER. Texts by their bytes, with a slash below every other byte
+abbrev pub byte_rank : ℕ → ℕ
+byte_rank b = if b == 47 then 0 else b + 1
+
+abbrev pub byte_cmp : ℕ → ℕ → Ordering
+byte_cmp a b = nat_cmp (byte_rank a) (byte_rank b)
+
+abbrev pub text_cmp : List ℕ → List ℕ → Ordering
+text_cmp = slice_cmp byte_cmp
+
+-- a name that a path may have: a byte or more, and no slash among them
+pub record IsName (n : Name) : Type 0 where
+  pub filled : 0 < length n
+  pub no_slash : AllByRecursion (λ b. b ≢ 47) n
+
+abbrev pub HasNames : Path → Type 0
+HasNames p = AllByRecursion IsName p
+
+abbrev pub SpelledPathsHaveNames : Type 0
+SpelledPathsHaveNames = (bytes : List ℕ) (domid : ℕ) (p : Path) → path_of bytes domid ≡ Ok p → HasNames p
+
+-- the order of paths is the order of their texts
+abbrev pub PathOrderIsTextOrder : Type 0
+PathOrderIsTextOrder = (p q : Path) → HasNames p → HasNames q → path_cmp p q ≡ text_cmp (text p) (text q)
+
+-- what stands between two paths at or below a path is at or below it
+abbrev pub PathsBelowStandTogether : Type 0
+PathsBelowStandTogether =
+    (a p q r : Path) → is_below a p ≡ true → is_below a r ≡ true → is_le (path_cmp p q) ≡ true → is_le (path_cmp q r) ≡ true → is_below a q ≡ true
+
+abbrev pub PathsStandBeforeThoseBelow : Type 0
+PathsStandBeforeThoseBelow = (a q : Path) → is_below a q ≡ true → is_le (path_cmp a q) ≡ true
 
 -- TREES. A command on a tree, whatever it answers, leaves a tree
 abbrev pub EachCommandKeepsTrees : Type 0

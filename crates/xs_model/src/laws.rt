@@ -1,7 +1,20 @@
 //! What follows from the definitions, in the words of the subject. A law is a function that does
 //! nothing: its clause is the law, and its proof is the proof of the law.
 
-ghost use Rattle.xs_model.specs.Laws.{EachCommandKeepsTrees, SpelledPathsAreShort, EachCommandKeepsPathsShort, EachReplyIsShort, DataIsForReaders, RefusalsChangeNothing};
+ghost use Rattle.xs_model.specs.Laws.{PathOrderIsTextOrder, SpelledPathsHaveNames, PathsBelowStandTogether, PathsStandBeforeThoseBelow, EachCommandKeepsTrees, SpelledPathsAreShort, EachCommandKeepsPathsShort, EachReplyIsShort, DataIsForReaders, RefusalsChangeNothing};
+
+/// The order of paths is the order of their texts, with the slash below every other byte: of all paths
+/// whose names have a byte or more and no slash, as those have that bytes of a request spell.
+pub fn path_order_is_text_order()
+    ensures texts { PathOrderIsTextOrder }
+    ensures names { SpelledPathsHaveNames }
+{}
+
+/// In that order the paths at and below a path stand together, and it is the first of them.
+pub fn paths_below_stand_together()
+    ensures between { PathsBelowStandTogether }
+    ensures first { PathsStandBeforeThoseBelow }
+{}
 
 /// A tree holds `/` and the parent of each of its other paths, and it still does so after any of the
 /// seven tree commands, whatever the answer was.
