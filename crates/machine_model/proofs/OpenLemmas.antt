@@ -47,7 +47,10 @@ told_open before after written t frame o =
           let c : Path = child p n in
           o.children p n parts.0 (first_false (has_path c t.prior.seen) (has_path c t.others) (has_path c changed) (ap (λ b. has_path c t.prior.seen && b) (sym (has_path-append c t.others changed)) ∙ x))
           ∙ alike.children p n parts.1;
-      parents = o.parents;
+      parents = λ p n w h there gone.
+          let c : Path = child p n in
+          let parts = outside-both c t.others changed h in
+          o.parents p n w parts.0 there (ap is_some ((changed_alike before after written frame).nodes c parts.1) ∙ gone);
     }
 
 -- THE CURRENT TREE UNDER A TRANSACTION WITHOUT CONFLICT
@@ -80,10 +83,18 @@ module _ (tree : Tree) (t : Transaction) (is : IsTree tree) (o : IsOpenOver tree
   root_by true w = ap is_some (node_at-written tree t.copy es [] w) ∙ o.began.root
   root_by false w = ap is_some (node_at-elsewhere tree es [] w) ∙ is.root
 
-  -- p's child was brought along as written: the copy has p, and p was brought along too
-  parent_of_written : (p : Path) (n : Name) → has_path (child p n) (edit_paths es) ≡ true → is_present (edited tree es) (child p n) ≡ true → is_present (edited tree es) p ≡ true
-  parent_of_written p n w h =
-      ap is_some (sym (o.nodes p (seen_outside p (o.parents p n w)))) ∙ o.began.parents p n (ap is_some (node_at-written t.copy tree es (child p n) w) ∙ h)
+  -- p was brought along too, so the copy and the tree agree on it
+  parent_of_copy : (p : Path) (n : Name) → has_path p (t.prior.seen ++ edit_paths es) ≡ true → is_present (edited t.copy es) (child p n) ≡ true → is_present (edited tree es) p ≡ true
+  parent_of_copy p n seen there = ap is_some (sym (o.nodes p (seen_outside p seen))) ∙ o.began.parents p n there
+
+  parent_of_old : (p : Path) (n : Name) (b : Bool) → has_path p (edit_paths es) ≡ b → is_present (edited t.copy es) (child p n) ≡ true → is_present tree (child p n) ≡ true → is_present (edited tree es) p ≡ true
+  parent_of_old p n true w there old = parent_of_copy p n (has_path-right p t.prior.seen (edit_paths es) w) there
+  parent_of_old p n false w there old = ap is_some (node_at-elsewhere tree es p w) ∙ is.parents p n old
+
+  -- p's child was brought along as written: it is in the copy, and in the current tree or not
+  parent_of_written : (p : Path) (n : Name) (b : Bool) → is_present tree (child p n) ≡ b → has_path (child p n) (edit_paths es) ≡ true → is_present (edited t.copy es) (child p n) ≡ true → is_present (edited tree es) p ≡ true
+  parent_of_written p n true old w there = parent_of_old p n (has_path p (edit_paths es)) refl there old
+  parent_of_written p n false old w there = parent_of_copy p n (o.parents p n w (written_outside (child p n) w) there old) there
 
   parent_of_other : (p : Path) (n : Name) (b : Bool) → has_path p (edit_paths es) ≡ b → is_present tree (child p n) ≡ true → is_present (edited tree es) (child p n) ≡ true → is_present (edited tree es) p ≡ true
   parent_of_other p n true w old h =
@@ -91,7 +102,7 @@ module _ (tree : Tree) (t : Transaction) (is : IsTree tree) (o : IsOpenOver tree
   parent_of_other p n false w old h = ap is_some (node_at-elsewhere tree es p w) ∙ is.parents p n old
 
   parent_by : (p : Path) (n : Name) (b : Bool) → has_path (child p n) (edit_paths es) ≡ b → is_present (edited tree es) (child p n) ≡ true → is_present (edited tree es) p ≡ true
-  parent_by p n true w h = parent_of_written p n w h
+  parent_by p n true w h = parent_of_written p n (is_present tree (child p n)) refl w (ap is_some (node_at-written t.copy tree es (child p n) w) ∙ h)
   parent_by p n false w h = parent_of_other p n (has_path p (edit_paths es)) refl (sym (ap is_some (node_at-elsewhere tree es (child p n) w)) ∙ h) h
 
   entry_by : (p : Path) (node : Node) (b : Bool) → has_path p (edit_paths es) ≡ b → node_at (edited tree es) p ≡ Some node → has_entry node.perms ≡ true
@@ -118,14 +129,6 @@ module _ (tree : Tree) (t : Transaction) (is : IsTree tree) (o : IsOpenOver tree
       (misses-left t.others (run_on t.copy t).touched (run_on t.copy t).written runs_missed)
       (misses-right t.others (run_on t.copy t).touched (run_on t.copy t).written runs_missed)
 
-  -- THE LAW OF SERIAL COMMIT, for one transaction
-  pub runs_alike : RunsAlike tree t
-  runs_alike = record {
-    replies = sym same_run.replies;
-    written = sym same_run.written;
-    nodes = λ p h. sym (same_run.alike.nodes p (missed p h));
-  }
-
   pub commit_tree : IsTree (run_on tree t).tree
   commit_tree = run_list-tree (edited tree es) t.list base_tree
 
@@ -133,3 +136,12 @@ module _ (tree : Tree) (t : Transaction) (is : IsTree tree) (o : IsOpenOver tree
   commit-elsewhere q h =
       let parts = outside-both q (edit_paths es) (run_on t.copy t).written h in
       run_list-elsewhere (edited tree es) t.list q (ap (has_path q) (sym same_run.written) ∙ parts.1) ∙ node_at-elsewhere tree es q parts.0
+
+  -- THE LAW OF SERIAL COMMIT, for one transaction
+  pub runs_alike : RunsAlike tree t
+  runs_alike = record {
+    replies = sym same_run.replies;
+    written = sym same_run.written;
+    nodes = λ p h. sym (same_run.alike.nodes p (missed p h));
+    elsewhere = commit-elsewhere;
+  }
