@@ -11,3 +11,4 @@ pub mod LimitLemmas
 pub mod SizeLemmas
 pub mod WholeLemmas
 pub mod SendLemmas
+pub mod IdLemmas

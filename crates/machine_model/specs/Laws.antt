@@ -9,11 +9,11 @@ use Rattle.xs_model.specs.Messages.{header_of}
 use Rattle.xs_model.specs.Laws.{HasShortPaths}
 use Rattle.xs_model.specs.Trees.{IsTree}
 use Rattle.machine_model.specs.Transactions.{after}
-use Rattle.machine_model.specs.Connections.{Connection}
+use Rattle.machine_model.specs.Connections.{Connection, least_free}
 use Rattle.machine_model.specs.Machine.{Machine, new_machine, Item, Asked, Lost, start, step_with}
 use Rattle.machine_model.specs.History.{run_with, past_at_start}
 use Rattle.machine_model.specs.Serial.{EachOpen, IsFollowed, IsSerial}
-use Rattle.machine_model.specs.Limits.{IsWithinLimits, IsStarted}
+use Rattle.machine_model.specs.Limits.{HasIds, IsWithinLimits, IsLeastFree, IsStarted}
 use Rattle.machine_model.specs.Sizes.{IsOneMessage, IsSized}
 use Rattle.machine_model.specs.Sends.{IsAnswered, IsDue, IsDrop}
 
@@ -68,6 +68,13 @@ DropsTouchNobodyElse = (served : List ℕ) (m : Machine) (c : ℕ) → IsDrop c 
 -- LIMITS. Each connection of a reached state is within them
 abbrev pub ConnectionsKeepLimits : Type 0
 ConnectionsKeepLimits = Reached (λ m. AllByRecursion (λ e. IsWithinLimits e.1) m.conns)
+
+-- The ids of connections are positive, each stands once, and INTRODUCE takes the least one that is free
+abbrev pub ConnectionsHaveIds : Type 0
+ConnectionsHaveIds = Reached (λ m. HasIds m.conns)
+
+abbrev pub NextConnectionIsFree : Type 0
+NextConnectionIsFree = Reached (λ m. IsLeastFree (least_free m.conns) m.conns)
 
 -- START gives the least positive id that the connection has not open
 abbrev pub StartGivesLeastFree : Type 0

@@ -4,9 +4,14 @@ use Rattle.std.specs.List.{AllByRecursion}
 use Rattle.std.specs.Ordering.{nat_cmp}
 use Rattle.std.specs.FinMap.{find, is_sorted}
 use Rattle.xs_model.specs.Messages.{string}
-use Rattle.machine_model.specs.Connections.{Connection, caller_of}
+use Rattle.machine_model.specs.Connections.{Connection, Connections, caller_of}
 use Rattle.machine_model.specs.Transactions.{started}
 use Rattle.machine_model.specs.Machine.{Machine, with_transaction}
+
+-- CONNECTIONS whose ids rise from 1 on, so that each stands once
+pub record HasIds (conns : Connections) : Type 0 where
+  pub rising : is_sorted nat_cmp conns ≡ true
+  pub positive : AllByRecursion (λ e. 1 ≤ e.0) conns
 
 -- a connection whose open transactions have rising ids from 1 on, and are not too many, nor are its watches
 pub record IsWithinLimits (conn : Connection) : Type 0 where

@@ -1,7 +1,7 @@
 //! What follows from the definitions, in the words of the subject. A law is a function that does
 //! nothing: its clause is the law, and its proof is the proof of the law.
 
-ghost use Rattle.machine_model.specs.Laws.{EachTreeIsOne, CommitsAreSerial, FollowedRunsAreSerial, RunsKeepFollowed, EachRequestHasOneReply, StrangersHaveNoReply, EachEventIsDue, DropsTouchNobodyElse, ConnectionsKeepLimits, StartGivesLeastFree, EachMessageIsWhole, SizedStoresSendWhole, RunsKeepSized, EachPathIsShort};
+ghost use Rattle.machine_model.specs.Laws.{EachTreeIsOne, CommitsAreSerial, FollowedRunsAreSerial, RunsKeepFollowed, EachRequestHasOneReply, StrangersHaveNoReply, EachEventIsDue, DropsTouchNobodyElse, ConnectionsKeepLimits, ConnectionsHaveIds, NextConnectionIsFree, StartGivesLeastFree, EachMessageIsWhole, SizedStoresSendWhole, RunsKeepSized, EachPathIsShort};
 
 /// In every state that a run from a new store reaches, the tree holds `/` and the parent of each of
 /// its other paths. So do the copy of each open transaction, and the tree that it sees.
@@ -48,6 +48,13 @@ pub fn drops_touch_nobody_else()
 /// each stands once.
 pub fn connections_keep_limits()
     ensures { ConnectionsKeepLimits }
+{}
+
+/// The ids of connections are positive, and each stands once. A connection that INTRODUCE makes gets
+/// the least positive id that no connection has.
+pub fn connections_have_ids()
+    ensures ids { ConnectionsHaveIds }
+    ensures next { NextConnectionIsFree }
 {}
 
 /// TRANSACTION_START gives the least positive id that its connection has not open.
