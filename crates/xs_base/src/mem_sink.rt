@@ -11,7 +11,7 @@ use crate::{Calls, Failed, NoMemory, Sink};
 use std::alloc::Global;
 use std::marker::Model;
 
-/// Room for bytes in memory, of which some writes fail, for tests.
+/// Room for bytes in memory for tests. The writes of stated numbers fail.
 #[derive(Debug, Drop)]
 pub struct MemSink {
     items: Vec<u8>,

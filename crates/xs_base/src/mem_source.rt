@@ -10,7 +10,7 @@ use crate::call_tally::CallTally;
 use crate::{Bytes, Calls, Failed, Source, SureSource};
 use std::marker::Model;
 
-/// Bytes in memory, of which some reads fail, for tests.
+/// Bytes in memory for tests. The reads of stated numbers fail.
 #[derive(Debug, Drop)]
 pub struct MemSource {
     source: SureSource,

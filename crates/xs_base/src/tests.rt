@@ -54,19 +54,24 @@ fn decimal_digits(rt: HostRuntime) -> Result<(), Fail> {
 }
 
 #[test]
-fn lists_grow(rt: HostRuntime) -> Result<(), Fail> {
+fn bytes_grow(rt: HostRuntime) -> Result<(), Fail> {
     let mut bytes = Bytes::from_vec(vec![in rt.alloc(); 1, 2]?);
     bytes.push(&[3])?;
     assert_eq!(rt; bytes, Bytes::copy(rt.alloc(), &[1, 2, 3])?);
     assert!(rt; bytes.len() == 3 && !bytes.is_empty());
+    Ok(())
+}
+
+#[test]
+fn items_grow(rt: HostRuntime) -> Result<(), Fail> {
     let mut calls = Calls::new(rt.alloc());
+    assert!(rt; calls.is_empty());
     calls.push(7)?;
-    let copied = calls.copy()?;
-    assert_eq!(rt; copied, calls);
-    assert_eq!(rt; copied.as_slice(), [7].as_slice());
-    assert!(rt; copied.len() == 1 && !copied.is_empty());
+    assert_eq!(rt; calls.copy()?, calls);
+    assert_eq!(rt; calls.as_slice(), [7].as_slice());
     assert_eq!(rt; calls.at(0), Some(&7));
     assert_eq!(rt; calls.at(1), None);
+    assert_eq!(rt; calls.len(), 1);
     Ok(())
 }
 
@@ -74,14 +79,18 @@ fn lists_grow(rt: HostRuntime) -> Result<(), Fail> {
 fn source_fails_in_mid_stream(rt: HostRuntime) -> Result<(), Fail> {
     let mut fails = Calls::new(rt.alloc());
     fails.push(1)?;
-    let mut source = MemSource::new(Bytes::copy(rt.alloc(), b"abcdefghij")?, fails);
+    let all = b"abcdefghij".as_slice();
+    let mut source = MemSource::new(Bytes::copy(rt.alloc(), all)?, fails);
     let mut piece = [0; 4];
-    assert_eq!(rt; source.read(&mut piece), Ok(4));
-    assert_eq!(rt; source.read(&mut piece), Err(Failed));
-    assert_eq!(rt; source.read(&mut piece), Ok(4));
-    assert_eq!(rt; piece, *b"efgh");
-    assert_eq!(rt; source.read(&mut piece), Ok(2));
-    assert_eq!(rt; source.read(&mut piece), Ok(0));
+    let mut got = Bytes::new(rt.alloc());
+    for want in [Ok(4), Err(Failed), Ok(4), Ok(2), Ok(0)] {
+        let read = source.read(&mut piece);
+        assert_eq!(rt; read, want);
+        if let Ok(count) = read {
+            got.push(&piece[..count])?;
+        }
+    }
+    assert_eq!(rt; got.as_slice(), all);
     Ok(())
 }
 
@@ -90,11 +99,16 @@ fn sink_is_full(rt: HostRuntime) -> Result<(), Fail> {
     let mut fails = Calls::new(rt.alloc());
     fails.push(0)?;
     let mut sink = MemSink::new(rt.alloc(), 5, fails)?;
-    assert_eq!(rt; sink.write(b"xyz"), Err(Failed));
-    assert_eq!(rt; sink.write(b"abc"), Ok(3));
-    assert_eq!(rt; sink.write(b"def"), Ok(2));
-    assert_eq!(rt; sink.write(b"f"), Err(Failed));
-    assert_eq!(rt; sink.write(b""), Ok(0));
+    let rows = [
+        ("xyz", Err(Failed)),
+        ("abc", Ok(3)),
+        ("def", Ok(2)),
+        ("f", Err(Failed)),
+        ("", Ok(0)),
+    ];
+    for (piece, want) in rows {
+        assert_eq!(rt; sink.write(piece.as_bytes()), want, "at {piece}");
+    }
     assert_eq!(rt; sink.bytes(), b"abcde".as_slice());
     Ok(())
 }
@@ -106,13 +120,19 @@ fn sure_ends(rt: HostRuntime) -> Result<(), Fail> {
     assert_eq!(rt; source.read(&mut piece), Ok(2));
     assert_eq!(rt; piece, *b"ab");
     assert_eq!(rt; SureSink::new().write(b"abc"), Ok(3));
-    let mut vault = SureVault::new(rt.alloc());
-    assert!(rt; vault.get()?.is_empty());
-    vault.put(b"one")?;
-    vault.put(b"two")?;
-    assert_eq!(rt; vault.get()?.as_slice(), b"two".as_slice());
     OpenGate.before_submit(1);
     OpenGate.before_put(0);
+    Ok(())
+}
+
+#[test]
+fn vault_keeps_the_last(rt: HostRuntime) -> Result<(), Fail> {
+    let mut vault = SureVault::new(rt.alloc());
+    assert!(rt; vault.get()?.is_empty());
+    for text in ["one", "two"] {
+        vault.put(text.as_bytes())?;
+        assert_eq!(rt; vault.get()?.as_slice(), text.as_bytes());
+    }
     Ok(())
 }
 
