@@ -1,13 +1,14 @@
 -- Making nodes on the way down, one after the other.
 use Rattle.std.proofs.Common.{◌≡◌, ℕ, ◌+◌, ◌<◌, true, List, [], ◌∷◌, ◌++◌, length, get_or, take, drop, refl, sym, ap, subst, ◌∙◌, Some, arith}
-use Rattle.std.proofs.lemmas.List.{take_more, drop_more, append_assoc, take_all, append-nil}
+use Rattle.std.proofs.lemmas.List.{take_more, drop_more, append_assoc, take_all, take-append-drop}
 use Rattle.std.proofs.lemmas.Bool.{and_from}
 use Rattle.std.specs.List.{list_all}
 use Rattle.xs_model.specs.declared.perm.Perm.{Perm}
 use Rattle.xs_model.specs.Paths.{Path, Name, child, way_down, parents}
-use Rattle.xs_model.specs.Trees.{Tree, Node, is_present, edited_at, Edit}
+use Rattle.xs_model.specs.Trees.{Tree, Node, IsTree, is_present, edited, edited_at}
+use Rattle.xs_model.specs.Perms.{new_root_perms}
 use Rattle.xs_model.specs.Commands.{creation}
-use Rattle.xs_model.proofs.WayLemmas.{parents-child}
+use Rattle.xs_model.proofs.WayLemmas.{parents-child, present_above}
 use Rattle.xs_model.proofs.TreeLemmas.{present_now}
 use Rattle.node_tree.specs.KeptTree.{has_parent}
 use Rattle.xs_drive.specs.Store.{Leads}
@@ -35,9 +36,9 @@ at_end path =
     ap (λ p. way_down p (drop (length path) path)) (take_all (length path) path (omega arith))
     ∙ ap (way_down path) (drop_all path)
   where
-  drop_all : (p : Path) → drop (length p) p ≡ []
-  drop_all [] = refl
-  drop_all (n ∷ ns) = drop_all ns
+    drop_all : (p : Path) → drop (length p) p ≡ []
+    drop_all [] = refl
+    drop_all (n ∷ ns) = drop_all ns
 
 pub between_all : (path : Path) (names : ℕ) (between : List Path) → IsBetween path names (length path) between → take names path ∷ (between ++ path ∷ []) ≡ way_down (take names path) (drop names path)
 between_all path names between so_far = ap (λ ps. take names path ∷ (between ++ ps)) (sym (at_end path)) ∙ so_far.way
@@ -46,8 +47,8 @@ between_all path names between so_far = ap (λ ps. take names path ∷ (between 
 child_first : (above a : Path) (names : List Name) (ps : List Path) → above ∷ (a ∷ ps) ≡ way_down above names → (n : Name) × (ns : List Name) × (a ≡ child above n) × (a ∷ ps ≡ way_down a ns)
 child_first above a [] ps e = absurd (longer above a ps e)
   where
-  longer : (above a : Path) (ps : List Path) → above ∷ (a ∷ ps) ≡ above ∷ [] → ⊥
-  longer above a ps e = cc
+    longer : (above a : Path) (ps : List Path) → above ∷ (a ∷ ps) ≡ above ∷ [] → ⊥
+    longer above a ps e = cc
 child_first above a (n ∷ []) ps e = let one : a ∷ ps ≡ child above n ∷ [] = cc in let first : a ≡ child above n = cc in (n, [], first, subst (λ q. a ∷ ps ≡ q ∷ []) (sym first) one)
 child_first above a (n ∷ m ∷ ns) ps e =
     let one : a ∷ ps ≡ child above n ∷ way_down (child (child above n) m) ns = cc in
@@ -74,3 +75,40 @@ creation_first perms value a (p ∷ ps) path = refl
 pub first_and_rest : (ps : List Path) (d : Path) → 0 < length ps → ps ≡ get_or ps 0 d ∷ drop 1 ps
 first_and_rest [] d h = absurd (omega arith)
 first_and_rest (p ∷ ps) d h = refl
+
+pub taken_first : (items rest : List Path) (a : Path) → 0 < length items → a ≡ get_or items 0 a → rest ≡ drop 1 items → items ≡ a ∷ rest
+taken_first items rest a some first others =
+    first_and_rest items a some ∙ ap (λ p. p ∷ drop 1 items) (sym first) ∙ ap (λ ps. a ∷ ps) (sym others)
+
+abbrev pub empty_node : Node
+empty_node = record { value = []; perms = new_root_perms }
+
+pub fill_rest : (tree new final : Tree) (items rest : List Path) (a path : Path) (value : List ℕ) → items ≡ a ∷ rest → new ≡ edited_at tree a (Some empty_node) → edited tree (creation new_root_perms value (items ++ path ∷ [])) ≡ final → edited new (creation new_root_perms value (rest ++ path ∷ [])) ≡ final
+fill_rest tree new final items rest a path value split set so_far =
+    ap (λ t. edited t (creation new_root_perms value (rest ++ path ∷ []))) set
+    ∙ ap (edited tree) (sym (creation_first new_root_perms value a rest path))
+    ∙ ap (λ ps. edited tree (creation new_root_perms value (ps ++ path ∷ []))) (sym split)
+    ∙ so_far
+
+pub fill_leads : (tree new : Tree) (items rest : List Path) (a path : Path) → items ≡ a ∷ rest → new ≡ edited_at tree a (Some empty_node) → Leads tree (items ++ path ∷ []) → Leads new (rest ++ path ∷ [])
+fill_leads tree new items rest a path split set leads =
+    subst (λ t. Leads t (rest ++ path ∷ [])) (sym set)
+    (leads_on tree a (rest ++ path ∷ []) empty_node (subst (λ ps. Leads tree (ps ++ path ∷ [])) split leads))
+
+pub fill_parent : (tree : Tree) (items rest : List Path) (a path : Path) → items ≡ a ∷ rest → Leads tree (items ++ path ∷ []) → has_parent tree a ≡ true
+fill_parent tree items rest a path split leads =
+    leads_parent tree a (rest ++ path ∷ []) (subst (λ ps. Leads tree (ps ++ path ∷ [])) split leads)
+
+pub last_parent : (tree : Tree) (items : List Path) (path : Path) → length items ≡ 0 → Leads tree (items ++ path ∷ []) → has_parent tree path ≡ true
+last_parent tree [] path none leads = leads_parent tree path [] leads
+last_parent tree (a ∷ items) path none leads = absurd (omega arith)
+
+-- a present path has its parent
+pub present_parent : (tree : Tree) → IsTree tree → (p : Path) → is_present tree p ≡ true → has_parent tree p ≡ true
+present_parent tree is [] h = refl
+present_parent tree is (n ∷ ns) h =
+    let up = take (length ns) (n ∷ ns) in
+    let above : is_present tree up ≡ true =
+    present_above tree is up (drop (length ns) (n ∷ ns)) (subst (λ q. is_present tree q ≡ true) (sym (take-append-drop (length ns) (n ∷ ns))) h)
+    in
+    and_from (is_present tree up) true above refl

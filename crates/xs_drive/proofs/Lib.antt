@@ -3,3 +3,6 @@ pub mod EndLemmas
 pub mod AloneLemmas
 pub mod SightLemmas
 pub mod WholeLemmas
+pub mod FillLemmas
+pub mod PlayLemmas
+pub mod DriveLemmas

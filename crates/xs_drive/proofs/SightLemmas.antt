@@ -1,11 +1,11 @@
 -- What a command of domain 0 sees, does and answers, at a path that is there and at one that is not.
-use Rattle.std.proofs.Common.{◌≡◌, ℕ, Bool, true, false, cond, List, [], ◌∷◌, ◌++◌, refl, sym, ap, subst, ◌∙◌, Option, Some, None, Ok, Err, is_some}
-use Rattle.std.proofs.lemmas.Bool.{false≢true}
-use Rattle.std.proofs.lemmas.List.{append-nil}
+use Rattle.std.proofs.Common.{◌≡◌, ℕ, zero, suc, arith, ◌+◌, ◌<◌, Bool, true, false, cond, List, [], ◌∷◌, ◌++◌, length, get_or, take, drop, refl, sym, ap, subst, ◌∙◌, inl, inr, Option, Some, None, Ok, Err, is_some}
+use Rattle.std.proofs.lemmas.Bool.{false≢true, cases_lt}
+use Rattle.std.proofs.lemmas.List.{append-nil, take_all, take_more, drop_more, take-append-drop}
 use Rattle.xs_model.specs.declared.message.WireErr.TheVariants.{Enoent}
 use Rattle.xs_model.specs.declared.perm.Perm.{Perm}
 use Rattle.xs_model.specs.Paths.{Path, Name, child, way_down}
-use Rattle.xs_model.specs.Perms.{created_perms}
+use Rattle.xs_model.specs.Perms.{created_perms, new_root_perms}
 use Rattle.xs_model.specs.Trees.{Node, Tree, IsTree, node_at, is_present, all_below, edited, edited_at}
 use Rattle.xs_model.specs.Messages.{ok_payload}
 use Rattle.xs_model.specs.Requests.{Operation, Read, Write}
@@ -13,7 +13,7 @@ use Rattle.xs_model.specs.Commands.{absent_of, nearest_of, node_or_empty, sized,
 use Rattle.xs_model.proofs.Maps.{not_both}
 use Rattle.xs_model.proofs.WayLemmas.{way_below, way_down-is, present_above, look_down}
 use Rattle.xs_model.proofs.PathLemmas.{child-way}
-use Rattle.xs_drive.specs.Store.{control, Runs}
+use Rattle.xs_drive.specs.Store.{control, Runs, IsFound, IsNearest, LeadsDown}
 
 -- THE WAY DOWN. What is above a present path is passed
 pub passed : (tree : Tree) → IsTree tree → (p : Path) (ns rest : List Name) → is_present tree (p ++ ns) ≡ true → (absent_of tree (way_below p (ns ++ rest)) ≡ absent_of tree (way_below (p ++ ns) rest)) × (nearest_of tree p (way_below p (ns ++ rest)) ≡ nearest_of tree (p ++ ns) (way_below (p ++ ns) rest))
@@ -24,9 +24,10 @@ passed tree is p (n ∷ ns) rest h =
     let on = child-way p n ns in
     let there : is_present tree (child p n ++ ns) ≡ true = subst (λ q. is_present tree q ≡ true) (sym on) h in
     let next = passed tree is (child p n) ns rest there in
-    let seen = present_above tree is (child p n) ns there in
-    (ap (λ b. cond b (absent_of tree (way_below (child p n) (ns ++ rest))) (child p n ∷ way_below (child p n) (ns ++ rest))) seen ∙ next.0 ∙ ap (λ q. absent_of tree (way_below q rest)) on,
-    ap (λ b. cond b (nearest_of tree (child p n) (way_below (child p n) (ns ++ rest))) p) seen ∙ next.1 ∙ ap (λ q. nearest_of tree q (way_below q rest)) on)
+    let seen = present_above tree is (child p n) ns there in (
+      ap (λ b. cond b (absent_of tree (way_below (child p n) (ns ++ rest))) (child p n ∷ way_below (child p n) (ns ++ rest))) seen ∙ next.0 ∙ ap (λ q. absent_of tree (way_below q rest)) on,
+      ap (λ b. cond b (nearest_of tree (child p n) (way_below (child p n) (ns ++ rest))) p) seen ∙ next.1 ∙ ap (λ q. nearest_of tree q (way_below q rest)) on,
+    )
 
 -- where the look down to a path ends: at the present path `above`, below which `rest` leads on to absent ones
 pub record EndsAt (tree : Tree) (path above : Path) (rest : List Name) : Type 0 where
@@ -34,9 +35,10 @@ pub record EndsAt (tree : Tree) (path above : Path) (rest : List Name) : Type 0 
   pub nearest : nearest_of tree [] (way_down [] path) ≡ above
 
 from_root : (tree : Tree) → IsTree tree → (path : Path) → (absent_of tree (way_down [] path) ≡ absent_of tree (way_below [] path)) × (nearest_of tree [] (way_down [] path) ≡ nearest_of tree [] (way_below [] path))
-from_root tree is path =
-    (ap (absent_of tree) (way_down-is [] path) ∙ ap (λ b. cond b (absent_of tree (way_below [] path)) ([] ∷ way_below [] path)) is.root,
-    ap (nearest_of tree []) (way_down-is [] path) ∙ ap (λ b. cond b (nearest_of tree [] (way_below [] path)) []) is.root)
+from_root tree is path = (
+  ap (absent_of tree) (way_down-is [] path) ∙ ap (λ b. cond b (absent_of tree (way_below [] path)) ([] ∷ way_below [] path)) is.root,
+  ap (nearest_of tree []) (way_down-is [] path) ∙ ap (λ b. cond b (nearest_of tree [] (way_below [] path)) []) is.root,
+)
 
 pub at_present : (tree : Tree) → IsTree tree → (path : Path) → is_present tree path ≡ true → EndsAt tree path path []
 at_present tree is path h =
@@ -125,3 +127,65 @@ writes_absent tree is above n rest value node h missing =
       left = ap (λ (s : Sight). (outcome_seen (Write value) tree path s).tree) seen
           ∙ ap (λ perms. edited tree (creation perms value (way_below above (n ∷ rest)))) (same_perms node.perms);
     }
+
+-- CREATE, by what the code holds
+found_node : (found : Option Node) → IsFound true found → (node : Node) × (found ≡ Some node) × (node.perms ≡ new_root_perms)
+found_node None h = absurd h
+found_node (Some node) h = (node, refl, h)
+
+pub not_found : (found : Option Node) → IsFound false found → found ≡ None
+not_found None h = refl
+not_found (Some node) h = absurd h
+
+pub found_present : (found : Option Node) → IsFound true found → is_some found ≡ true
+found_present None h = absurd h
+found_present (Some node) h = refl
+
+-- where the path is absent, the nearest node is above it
+pub nearest_above : (tree : Tree) (path : Path) (names : ℕ) → is_present tree path ≡ false → IsNearest tree path names → names < length path
+nearest_above tree path names missing near =
+    elim (cases_lt names (length path)) [
+      | inl below ↦ below
+      | inr beyond ↦ absurd (not_both (ap (is_present tree) (sym (take_all names path beyond)) ∙ found_present (node_at tree (take names path)) near.found) missing)
+    ]
+
+tail_of : {p q : Path} {ps qs : List Path} → p ∷ ps ≡ q ∷ qs → ps ≡ qs
+tail_of e = cc
+
+same_rest : (above : Path) (paths : List Path) (names : List Name) → above ∷ paths ≡ way_down above names → paths ≡ way_below above names
+same_rest above paths names e = tail_of (e ∙ way_down-is above names)
+
+pub creates : (tree new : Tree) → IsTree tree → (path : Path) (value : List ℕ) (names : ℕ) (between : List Path) → is_present tree path ≡ false → IsNearest tree path names → LeadsDown between path names → new ≡ edited tree (creation new_root_perms value (between ++ path ∷ [])) → Runs (Write value) path tree (Ok ok_payload) new
+creates tree new is path value names between missing near down made =
+    let above = take names path in
+    let inside = nearest_above tree path names missing near in
+    let found = found_node (node_at tree above) near.found in
+    let n = get_or path names [] in
+    let rest = drop (names + 1) path in
+    let way : drop names path ≡ n ∷ rest = drop_more path names [] inside in
+    let whole : above ++ (n ∷ rest) ≡ path = ap (λ q. above ++ q) (sym way) ∙ take-append-drop names path in
+    let absent : is_present tree (child above n) ≡ false = ap (is_present tree) (sym (take_more path names [] inside)) ∙ near.below inside in
+    let runs = writes_absent tree is above n rest value found.0 found.1 absent in
+    let paths : way_below above (n ∷ rest) ≡ between ++ path ∷ [] = sym (same_rest above (between ++ path ∷ []) (n ∷ rest) (down ∙ ap (way_down above) way)) in
+    let edits : edited tree (creation found.0.perms value (way_below above (n ∷ rest))) ≡ new =
+    ap (λ perms. edited tree (creation perms value (way_below above (n ∷ rest)))) found.2
+    ∙ ap (λ ps. edited tree (creation new_root_perms value ps)) paths
+    ∙ sym made
+    in
+    let at : Runs (Write value) path tree (Ok ok_payload) (edited tree (creation found.0.perms value (way_below above (n ∷ rest)))) =
+    subst (λ p. Runs (Write value) p tree (Ok ok_payload) (edited tree (creation found.0.perms value (way_below above (n ∷ rest))))) whole runs
+    in
+    subst (λ t. Runs (Write value) path tree (Ok ok_payload) t) edits at
+
+-- WRITE to a present path, by what the code holds
+pub writes_found : (tree new : Tree) → IsTree tree → (path : Path) (value : List ℕ) → IsFound true (node_at tree path) → new ≡ edited_at tree path (Some (record { value = value; perms = new_root_perms })) → Runs (Write value) path tree (Ok ok_payload) new
+writes_found tree new is path value found set =
+    let node = found_node (node_at tree path) found in
+    let runs = writes_present tree is path value node.0 node.1 in
+    subst (λ t. Runs (Write value) path tree (Ok ok_payload) t)
+    (ap (λ perms. edited_at tree path (Some (record { value = value; perms = perms }))) node.2 ∙ sym set) runs
+
+-- the root is there, so an absent path has a name
+pub deeper : (tree : Tree) → IsTree tree → (path : Path) (names : ℕ) → IsFound false (node_at tree (take names path)) → 0 < names
+deeper tree is path zero h = absurd (not_both is.root (ap is_some (not_found (node_at tree []) h)))
+deeper tree is path (suc n) h = omega arith

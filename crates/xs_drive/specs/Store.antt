@@ -6,13 +6,13 @@ use Rattle.xs_model.specs.declared.message.WireErr.{WireErr}
 use Rattle.xs_model.specs.Perms.{Caller}
 use Rattle.xs_model.specs.Paths.{Path, Name, way_down}
 use Rattle.xs_model.specs.Perms.{new_root_perms}
-use Rattle.xs_model.specs.Trees.{Tree, Node, is_present}
+use Rattle.xs_model.specs.Trees.{Tree, Node, node_at, is_present}
 use Rattle.xs_model.specs.Messages.{message_bytes}
-use Rattle.xs_model.specs.Requests.{Operation, request_of, built_types}
+use Rattle.xs_model.specs.Requests.{Operation, Request, request_of, built_types}
 use Rattle.xs_model.specs.Commands.{command}
 use Rattle.machine_model.specs.declared.ConnSpec.TheVariants.{Ring}
 use Rattle.machine_model.specs.Connections.{Connection, fresh}
-use Rattle.machine_model.specs.Machine.{Machine, Asked, Done, act_or_refuse, built_step, new_machine, reply_message}
+use Rattle.machine_model.specs.Machine.{Machine, Asked, Done, act, act_or_refuse, built_step, new_machine, reply_message}
 use Rattle.machine_model.specs.History.{sent_to}
 
 -- the machine of a tree
@@ -51,18 +51,24 @@ pub record RunsTo (operation : Operation) (path : Path) (old : Tree) (head : Hea
   pub runs : Runs operation path old reply new
   pub spelled : bytes ≡ message_bytes (reply_message head reply)
 
--- the deepest present path at or above a path, by its number of names
-pub record IsNearest (tree : Tree) (path : Path) (names : ℕ) : Type 0 where
-  pub within : names ≤ length path
-  pub present : is_present tree (take names path) ≡ true
-  pub below : names < length path → is_present tree (take (names + 1) path) ≡ false
-
 -- what is found at a path has the entries of a new store, as every node of this version
 abbrev pub IsFound : Bool → Option Node → Type 0
 IsFound true None = ⊥
 IsFound true (Some node) = node.perms ≡ new_root_perms
 IsFound false None = ⊤
 IsFound false (Some node) = ⊥
+
+-- the deepest present path at or above a path, by its number of names
+pub record IsNearest (tree : Tree) (path : Path) (names : ℕ) : Type 0 where
+  pub within : names ≤ length path
+  pub found : IsFound true (node_at tree (take names path))
+  pub below : names < length path → is_present tree (take (names + 1) path) ≡ false
+
+-- a request of domain 0 was answered by a message under this header
+pub record AnswersTo (request : Request) (old : Tree) (head : Header) (bytes : List ℕ) (new : Tree) : Type 0 where
+  pub reply : Result (List ℕ) WireErr
+  pub done : act (store_machine old) 1 control_conn head.tx_id request ≡ record { reply = reply; machine = store_machine new; sends = [] }
+  pub spelled : bytes ≡ message_bytes (reply_message head reply)
 
 -- the paths between the first so many names of a path and the path itself, in order
 abbrev pub LeadsDown : List Path → Path → ℕ → Type 0

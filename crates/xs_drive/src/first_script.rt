@@ -7,7 +7,7 @@ ghost use Rattle.xs_model.specs.Messages.{word_at};
 
 use byteorder::{ByteOrder, LittleEndian};
 use std::alloc::Global;
-use xs_base::{read_hex, Bytes, HexFault, Items, NoMemory};
+use xs_base::{Bytes, HexFault, Items, NoMemory, read_hex};
 
 /// The messages of a script, if it is a first script. O(length of the text).
 pub fn messages_of(alloc: Global, text: &[u8]) -> Result<Option<Items<Bytes>>, NoMemory>

@@ -14,18 +14,17 @@ mod store;
 #[cfg(test)]
 mod tests;
 
-ghost use Rattle.std.specs.Prelude.{◌≡◌, ◌⊎◌, ◌↔◌, ◌<◌, ◌≤◌, ⊥, true, false, Some, IsSome, IfSome, IsTrue, map, length, string_bytes};
+ghost use Rattle.std.specs.Prelude.{◌≡◌, ◌⊎◌, ◌↔◌, ◌<◌, ◌≤◌, true, false, Some, IsSome, IfSome, IsTrue, map, length, string_bytes};
 ghost use Rattle.std.specs.Io.KnownBytes.{Appends, Keeps, IsAtEnd};
 ghost use Rattle.xs_base.specs.Faults.{NeverFalls, Rose};
 ghost use Rattle.world_model.specs.FirstScript.{first_transcript, is_first_script};
 ghost use Rattle.xs_drive.specs.Ends.{AppendsFront, IsPlayable, is_run, script_limit};
 ghost use Rattle.xs_drive.specs.Statuses.{is_before_run};
 
-pub use status::Status;
-
 use crate::input::{InputFault, read_all};
 use crate::output::write_all;
 use crate::play::transcript_of;
+pub use status::Status;
 use std::alloc::Global;
 use xs_base::{Sink, Source, Vault};
 

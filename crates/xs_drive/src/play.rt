@@ -1,9 +1,9 @@
 //! Plays a first script.
 
-ghost use Rattle.std.specs.Prelude.{◌≡◌, ◌≤◌, IfOk, length, All, option_map};
+ghost use Rattle.std.specs.Prelude.{◌≡◌, ◌≤◌, IfOk, length, All};
 ghost use Rattle.machine_model.specs.Machine.{new_machine};
-ghost use Rattle.world_model.specs.Lines.{lines_of};
-ghost use Rattle.world_model.specs.FirstScript.{first_messages, served_all};
+ghost use Rattle.world_model.specs.FirstScript.{served_all};
+ghost use Rattle.xs_drive.specs.Ends.{IsTranscript};
 
 use crate::first_script::messages_of;
 use crate::print::push_served;
@@ -12,8 +12,9 @@ use std::alloc::Global;
 use xs_base::{Bytes, Items, NoMemory};
 
 /// The transcript of a script, if it is a first script. O(its length, and a search of the tree for each message).
+#[tactic(auto, using(crate::proofs::DriveLemmas::transcript_some, crate::proofs::DriveLemmas::transcript_none))]
 pub fn transcript_of(alloc: Global, text: &[u8]) -> Result<Option<Bytes>, NoMemory>
-    ensures { IfOk result (λ found. found ≡ option_map (served_all new_machine) (first_messages (lines_of text.now))) }
+    ensures { IfOk result (IsTranscript text.now) }
 {
     match messages_of(alloc, text)? {
         None => Ok(None),

@@ -4,7 +4,7 @@ ghost use Rattle.std.specs.Prelude.{◌≡◌, ◌++◌, OnOk, length, decimal, 
 ghost use Rattle.world_model.specs.FirstScript.{line, served_lines};
 ghost use Rattle.text_model.specs.Hex.{hex};
 
-use xs_base::{push_decimal, push_hex, Bytes, NoMemory};
+use xs_base::{Bytes, NoMemory, push_decimal, push_hex};
 
 /// Appends what is printed for a message of so many bytes that was served at once. O(length of the reply).
 pub fn push_served(out: &mut Bytes, message: &[u8], reply: &[u8]) -> Result<(), NoMemory>

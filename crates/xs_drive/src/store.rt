@@ -2,13 +2,13 @@
 
 ghost use Rattle.std.specs.Prelude.{◌≡◌, ◌≤◌, ◌<◌, ◌+◌, [], ◌∷◌, ◌++◌, List, length, take, drop, OnOk, OnErr, IfOk, Ok, Err, vec_len, true, false};
 ghost use Rattle.xs_model.specs.Messages.{header_of, payload_of, message_bytes, ok_payload};
-ghost use Rattle.xs_model.specs.Requests.{Read as read_operation, Write as write_operation};
-ghost use Rattle.xs_model.specs.Trees.{new_tree, node_at, edited, is_present};
-ghost use Rattle.xs_model.specs.Commands.{creation};
+ghost use Rattle.xs_model.specs.Requests.{Read as read_operation, Write as write_operation, Command};
+ghost use Rattle.xs_model.specs.Trees.{IsTree, new_tree, node_at, edited, is_present};
+ghost use Rattle.xs_model.specs.Commands.{creation, sized};
 ghost use Rattle.xs_model.specs.Perms.{new_root_perms};
 ghost use Rattle.machine_model.specs.Machine.{reply_message};
-ghost use Rattle.wire_codec.specs.Codec.{operation_of};
-ghost use Rattle.xs_drive.specs.Store.{Serves, Runs, RunsTo, IsNearest, IsFound, LeadsDown, Leads};
+ghost use Rattle.wire_codec.specs.Codec.{operation_of, request_view};
+ghost use Rattle.xs_drive.specs.Store.{Serves, AnswersTo, Runs, RunsTo, IsNearest, IsFound, LeadsDown, Leads};
 
 use node_tree::{Node, Tree};
 use std::alloc::Global;
@@ -57,26 +57,28 @@ impl Store {
             Err(RequestErr::NoMemory) => Err(NoMemory),
             Err(RequestErr::Enosys) => refusal(alloc, head, WireErr::Enosys),
             Err(RequestErr::Einval) => refusal(alloc, head, WireErr::Einval),
-            Ok(Request::Command(command)) => {
-                if head.tx_id == 0 {
-                    self.run(alloc, head, command)
-                } else {
-                    refusal(alloc, head, WireErr::Enoent)
-                }
-            }
+            Ok(request) => self.answer(alloc, head, request),
         }
     }
 }
 
 impl Store {
+    /// A request. No transaction is open, so that a command in one is refused.
+    fn answer(&mut self, alloc: Global, head: Header, request: Request) -> Result<Bytes, NoMemory>
+        ensures ok { IfOk result (λ reply. AnswersTo (request_view request) self.old head reply self.new) }
+        ensures err { OnErr result (self.new ≡ self.old) }
+    {
+        let command = command_of(request);
+        if head.tx_id == 0 {
+            self.run(alloc, head, command)
+        } else {
+            refusal(alloc, head, WireErr::Enoent)
+        }
+    }
+
     /// A command outside of transactions.
-    fn run(
-        &mut self,
-        alloc: Global,
-        head: Header,
-        command: TreeCommand,
-    ) -> Result<Bytes, NoMemory>
-        ensures ok { IfOk result (RunsTo (operation_of command.op) command.path self.old head self.new) }
+    fn run(&mut self, alloc: Global, head: Header, command: TreeCommand) -> Result<Bytes, NoMemory>
+        ensures ok { IfOk result (λ reply. RunsTo (operation_of command.op) command.path self.old head reply self.new) }
         ensures err { OnErr result (self.new ≡ self.old) }
     {
         let TreeCommand { op, path } = command;
@@ -92,8 +94,7 @@ impl Store {
     {
         match self.tree.node(path) {
             None => refusal(alloc, head, WireErr::Enoent),
-            Some(node) if node.value.len() > PAYLOAD_MAX => refusal(alloc, head, WireErr::E2big),
-            Some(node) => success(alloc, head, node.value.as_slice()),
+            Some(node) => shown(alloc, head, value_of(node)),
         }
     }
 
@@ -105,7 +106,7 @@ impl Store {
         path: Path,
         value: Bytes,
     ) -> Result<Bytes, NoMemory>
-        ensures ok { IfOk result (RunsTo (write_operation value) path self.old head self.new) }
+        ensures ok { IfOk result (λ reply. RunsTo (write_operation value) path self.old head reply self.new) }
         ensures err { OnErr result (self.new ≡ self.old) }
     {
         let reply = success(alloc, head, b"OK\0")?;
@@ -133,7 +134,8 @@ impl Store {
 
     /// Whether a path has a node.
     fn has(&self, path: &Path) -> bool
-        ensures { IsFound result (node_at self.now path.now) }
+        ensures found { IsFound result (node_at self.now path.now) }
+        ensures tree { IsTree self.now }
     {
         match self.tree.node(path) {
             None => false,
@@ -143,14 +145,40 @@ impl Store {
 
     /// The number of names of the deepest node at or above a path.
     fn nearest(&self, alloc: Global, path: &Path) -> Result<usize, NoMemory>
-        ensures { IfOk result (IsNearest self.now path.now) }
+        ensures nearest { IfOk result (IsNearest self.now path.now) }
+        ensures tree { OnOk result (IsTree self.now) }
     {
         let mut names = path.depth();
-        while !self.has(&path.prefix(alloc, names)?) {
+        while !self.has_first(alloc, path, names)? {
             names -= 1;
         }
         Ok(names)
     }
+
+    /// Whether the first so many names of a path lead to a node.
+    fn has_first(&self, alloc: Global, path: &Path, names: usize) -> Result<bool, NoMemory>
+        ensures found { IfOk result (λ found. IsFound found (node_at self.now (take names path.now))) }
+        ensures tree { OnOk result (IsTree self.now) }
+    {
+        let first = path.prefix(alloc, names)?;
+        Ok(self.has(&first))
+    }
+}
+
+/// The command that every request of this version is.
+fn command_of(request: Request) -> TreeCommand
+    ensures { request_view request ≡ Command (operation_of result.op) result.path }
+{
+    match request {
+        Request::Command(command) => command,
+    }
+}
+
+/// The value of a node.
+fn value_of(node: &Node) -> &[u8]
+    ensures { result.now ≡ node.now.value }
+{
+    node.value.as_slice()
 }
 
 /// A node of this version has the entries of a new store.
@@ -167,9 +195,10 @@ fn between(alloc: Global, path: &Path, names: usize) -> Result<Vec<Path>, NoMemo
     requires { names < length path.now }
     ensures { IfOk result (λ between. LeadsDown between.items path.now names) }
 {
+    let depth = path.depth();
     let mut between = Vec::new(alloc);
-    for depth in names + 1..path.depth() {
-        between.push(path.prefix(alloc, depth)?)?;
+    for at in names + 1..depth {
+        between.push(path.prefix(alloc, at)?)?;
     }
     Ok(between)
 }
@@ -181,7 +210,7 @@ fn fill(alloc: Global, tree: &mut Tree, between: Vec<Path>, path: Path, value: B
     ensures { tree.new.nodes ≡ edited tree.old.nodes (creation new_root_perms value (between.items ++ path ∷ [])) }
 {
     let mut left = between;
-    while !left.is_empty() {
+    'left: while !left.is_empty() {
         let above = left.remove(0);
         tree.set(above, Node::new(Bytes::new(alloc)));
     }
@@ -211,6 +240,17 @@ fn success(alloc: Global, head: Header, payload: &[u8]) -> Result<Bytes, NoMemor
 {
     let len = payload.len() as u32;
     write_message(alloc, Header { len, ..head }, payload)
+}
+
+/// A reply with data, which is refused where it is longer than a payload may be.
+fn shown(alloc: Global, head: Header, data: &[u8]) -> Result<Bytes, NoMemory>
+    ensures { IfOk result (λ bytes. bytes ≡ message_bytes (reply_message head (sized data.now))) }
+{
+    if data.len() > PAYLOAD_MAX {
+        refusal(alloc, head, WireErr::E2big)
+    } else {
+        success(alloc, head, data)
+    }
 }
 
 /// A refusal of a request with this header.

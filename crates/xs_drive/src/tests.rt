@@ -1,0 +1,92 @@
+//! Worked scripts through `drive`, and ends that fail.
+
+use crate::{Status, drive};
+use std::alloc::Global;
+use std::test::Fail;
+use xs_base::{Bytes, Calls, MemSink, MemSource, NoMemory, SureSink, SureSource, SureVault};
+
+/// What comes of a script over ends that fail at their first call, or never.
+fn played(
+    alloc: Global,
+    script: &[u8],
+    fail_read: bool,
+    fail_write: bool,
+) -> Result<(Status, Bytes), NoMemory> {
+    let words = vec![in alloc; String::from_str(alloc, "run")?]?;
+    let mut src = MemSource::new(Bytes::copy(alloc, script)?, first(alloc, fail_read)?);
+    let mut out = MemSink::new(alloc, 4096, first(alloc, fail_write)?)?;
+    let mut vault = SureVault::new(alloc);
+    let status = drive(alloc, words.as_slice(), &mut src, &mut out, &mut vault);
+    Ok((status, Bytes::copy(alloc, out.bytes())?))
+}
+
+/// The first call, or none.
+fn first(alloc: Global, fails: bool) -> Result<Calls, NoMemory> {
+    let mut calls = Calls::new(alloc);
+    if fails {
+        calls.push(0)?;
+    }
+    Ok(calls)
+}
+
+#[test]
+fn plays_worked_scripts(rt: HostRuntime) -> Result<(), Fail> {
+    let cases = [
+        ("", Status::Done, ""),
+        (
+            "send 0 020000000100000000000000030000002f6100\nserve 0\n",
+            Status::Done,
+            "send 0 19\nput 0 19\nintake 0 19\ndo 0 done\nout 0 23\n\
+             take 0 10000000010000000000000007000000454e4f454e5400\n",
+        ),
+        (
+            "send 0 0b0000000200000000000000060000002f6100000100\nserve 0\n\
+             send 0 020000000300000000000000030000002f6100\nserve 0",
+            Status::Done,
+            "send 0 22\nput 0 22\nintake 0 22\ndo 0 done\nout 0 19\n\
+             take 0 0b0000000200000000000000030000004f4b00\n\
+             send 0 19\nput 0 19\nintake 0 19\ndo 0 done\nout 0 19\n\
+             take 0 02000000030000000000000003000000000100\n",
+        ),
+        ("serve 0\n", Status::Unbuilt, ""),
+        ("send 0 02\nserve 0\n", Status::Unbuilt, ""),
+    ];
+    for (script, status, transcript) in cases {
+        let (got, written) = played(rt.alloc(), script.as_bytes(), false, false)?;
+        assert_eq!(rt; got, status, "{script}");
+        assert_eq!(rt; written.as_slice(), transcript.as_bytes(), "{script}");
+    }
+    Ok(())
+}
+
+#[test]
+fn names_the_end_that_fails(rt: HostRuntime) -> Result<(), Fail> {
+    let script = b"send 0 020000000100000000000000030000002f6100\nserve 0\n";
+    let (status, written) = played(rt.alloc(), script, true, false)?;
+    assert_eq!(rt; status, Status::ReadFault);
+    assert!(rt; written.is_empty());
+    let (status, written) = played(rt.alloc(), script, false, true)?;
+    assert_eq!(rt; status, Status::WriteFault);
+    assert!(rt; written.is_empty());
+    Ok(())
+}
+
+#[test]
+fn refuses_other_words_and_longer_scripts(rt: HostRuntime) -> Result<(), Fail> {
+    let alloc = rt.alloc();
+    let mut out = SureSink::new();
+    let mut vault = SureVault::new(alloc);
+    let mut words = Vec::new(alloc);
+    let mut src = SureSource::new(Bytes::new(alloc));
+    let status = drive(alloc, words.as_slice(), &mut src, &mut out, &mut vault);
+    assert_eq!(rt; status, Status::Usage);
+    words.push(String::from_str(alloc, "run")?)?;
+    let long = vec![in alloc; b'#'; 16_777_217]?;
+    let mut src = SureSource::new(Bytes::from_vec(long));
+    let status = drive(alloc, words.as_slice(), &mut src, &mut out, &mut vault);
+    assert_eq!(rt; status, Status::TooLong);
+    words.push(String::from_str(alloc, "x")?)?;
+    let status = drive(alloc, words.as_slice(), &mut src, &mut out, &mut vault);
+    assert_eq!(rt; status, Status::Usage);
+    Ok(())
+}
