@@ -6,7 +6,7 @@ use Rattle.std.specs.Ordering.{nat_cmp, ordering_then, is_eq, eq_by_cmp}
 use Rattle.std.specs.Cmp.Lexicographic.{pointwise, lists_ties}
 use Rattle.std.proofs.lemmas.Bool.Decides.{nat_tests}
 use Rattle.xs_model.specs.Paths.{Path, path_cmp, name_cmp, onto_first, split_names, absolute_path, is_absolute}
-use Rattle.xs_path.specs.Texts.{text_cmp, byte_cmp}
+use Rattle.xs_model.specs.Laws.{text_cmp, byte_cmp}
 use Rattle.xs_path.proofs.Splitting.{is_slash, slashes, length-split_names}
 
 nat_cmp-next : (b c : ℕ) → nat_cmp (b + 1) (c + 1) ≡ nat_cmp b c

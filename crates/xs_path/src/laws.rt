@@ -2,7 +2,7 @@
 
 ghost use Rattle.std.specs.Prelude.{◌≡◌, ℕ, true, List};
 ghost use Rattle.xs_model.specs.Paths.{path_cmp, absolute_path, is_absolute};
-ghost use Rattle.xs_path.specs.Texts.{text_cmp};
+ghost use Rattle.xs_model.specs.Laws.{text_cmp};
 
 /// Paths stand in the order of their texts, if a slash counts below every other byte.
 pub fn path_order_is_text_order()

@@ -1,7 +1,7 @@
 //! The order of paths, which is the order of their texts with a slash below every other byte.
 
 ghost use Rattle.std.specs.Prelude.{◌≡◌};
-ghost use Rattle.xs_path.specs.Texts.{byte_rank, text_cmp};
+ghost use Rattle.xs_model.specs.Laws.{byte_rank, text_cmp};
 
 use crate::Path;
 use std::cmp::Ordering;

@@ -1,5 +1,5 @@
 use Rattle.std.proofs.Common.{◌≡◌, length, drop}
-use Rattle.xs_path.specs.Texts.{text_cmp}
+use Rattle.xs_model.specs.Laws.{text_cmp}
 use Rattle.xs_path.proofs.order.compare.Given as goal
 
 -- what is left of the texts stands as the texts do

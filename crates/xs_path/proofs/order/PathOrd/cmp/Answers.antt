@@ -1,6 +1,6 @@
 use Rattle.std.proofs.Common.{sym, ◌∙◌}
 use Rattle.xs_model.specs.Paths.{path_cmp}
-use Rattle.xs_path.specs.Texts.{text_cmp}
+use Rattle.xs_model.specs.Laws.{text_cmp}
 use Rattle.xs_path.proofs.Ordered.{path_cmp-absolute_path}
 use Rattle.xs_path.proofs.order.PathOrd.cmp.Goals as goal
 
