@@ -1,0 +1,11 @@
+use Rattle.world_model.specs.Rings.{Ring}
+use Rattle.ring_index.specs.Pipes.{IsRing}
+use Rattle.ring_index.proofs.PipeLemmas.{held-put_all}
+use Rattle.ring_index.proofs.ring.Ring.put.Goals as goal
+
+pub returns-clause-content : goal.returns-clause-content
+returns-clause-content c =
+    let inside = c.self.inside in
+    let ring : Ring = record { cons = inside.cons; prod = inside.prod; cells = inside.cells } in
+    let whole : IsRing ring = record { cons = c.self.invariant.0; prod = c.self.invariant.1; cells = c.self.told } in
+    rw (c.write_round.ensures, ← c.self.view_is) (held-put_all ring _ whole (rw (← c.self.view_is) at c.requires))
