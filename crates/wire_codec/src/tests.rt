@@ -22,6 +22,20 @@ fn reads_and_writes_one_message(rt: HostRuntime) -> Result<(), Fail> {
     Ok(())
 }
 
+/// A request or its refusal in a word or two.
+fn told(got: &Result<Request, RequestErr>) -> &'static str {
+    match got {
+        Ok(Request::Command(command)) => match &command.op {
+            TreeOp::Read => "read",
+            TreeOp::Write(value) if value.len() == 2 => "write 2",
+            TreeOp::Write(_) => "write",
+        },
+        Err(RequestErr::Einval) => "einval",
+        Err(RequestErr::Enosys) => "enosys",
+        Err(RequestErr::NoMemory) => "memory",
+    }
+}
+
 #[test]
 fn reads_the_requests_that_are_built(rt: HostRuntime) -> Result<(), Fail> {
     let cases = [
@@ -39,17 +53,8 @@ fn reads_the_requests_that_are_built(rt: HostRuntime) -> Result<(), Fail> {
             tx_id: 0,
             len: 0,
         };
-        let got = match read_request(rt.alloc(), head, payload, 0) {
-            Ok(Request::Command(command)) => match command.op {
-                TreeOp::Read => "read",
-                TreeOp::Write(value) if value.len() == 2 => "write 2",
-                TreeOp::Write(_) => "write",
-            },
-            Err(RequestErr::Einval) => "einval",
-            Err(RequestErr::Enosys) => "enosys",
-            Err(RequestErr::NoMemory) => "memory",
-        };
-        assert_eq!(rt; got, want, "type {kind}");
+        let got = read_request(rt.alloc(), head, payload, 0);
+        assert_eq!(rt; told(&got), want, "type {kind}");
     }
     Ok(())
 }
