@@ -3,28 +3,32 @@
 ghost use Rattle.std.specs.Prelude.{◌≡◌, ◌<◌, ◌≤◌, length, IfOk, IfSome, OnOk};
 ghost use Rattle.std.specs.Io.KnownBytes.{Consumes, IsAtEnd};
 ghost use Rattle.xs_base.specs.Faults.{NeverFalls, Rose};
-ghost use Rattle.xs_drive.specs.Ends.{script_limit};
+ghost use Rattle.program_io.specs.Ends.{input_limit};
 
 use std::alloc::Global;
 use xs_base::{Bytes, Source};
 
-/// The most bytes that a script may have.
-pub const SCRIPT_LIMIT: usize = 16_777_216;
+/// The most bytes that an input may have.
+pub const INPUT_LIMIT: usize = 16_777_216;
 
-/// Why a source was not read to its end.
+/// Why an input was not read to its end.
 #[derive(Clone, Copy, Debug, PartialEq, Eq)]
 pub enum InputFault {
+    /// It has more than 16777216 bytes.
     TooLong,
+    /// The source failed.
     ReadFault,
+    /// No memory was found for its bytes.
     NoMemory,
 }
 
-/// All bytes that a source has left. O(their number), and at most one byte above the limit is asked for.
+/// All bytes that a source has left, if these are no more than 16777216. O(their number), and at most one piece
+/// of 16384 bytes behind the limit is asked for.
 pub fn read_all<S: Source>(alloc: Global, src: &mut S) -> Result<Bytes, InputFault>
     ensures bytes { IfOk result (λ text. Consumes (S.left src.old) (S.left src.new) text) }
     ensures end { OnOk result (IsAtEnd (S.left src.new)) }
-    ensures short { IfOk result (λ text. length text ≤ script_limit) }
-    ensures too_long { result ≡ Err InputFault.TooLong → IfSome (S.left src.old) (λ text. script_limit < length text) }
+    ensures short { IfOk result (λ text. length text ≤ input_limit) }
+    ensures too_long { result ≡ Err InputFault.TooLong → IfSome (S.left src.old) (λ text. input_limit < length text) }
     ensures read_fault { result ≡ Err InputFault.ReadFault → Rose (S.faults src.old) (S.faults src.new) }
     ensures counts { NeverFalls (S.faults src.old) (S.faults src.new) }
 {
@@ -37,7 +41,7 @@ pub fn read_all<S: Source>(alloc: Global, src: &mut S) -> Result<Bytes, InputFau
         if count == 0 {
             return Ok(Bytes::from_vec(text));
         }
-        if text.len() + count > SCRIPT_LIMIT {
+        if text.len() + count > INPUT_LIMIT {
             return Err(InputFault::TooLong);
         }
         if text.extend_from_slice(&piece[..count]).is_err() {

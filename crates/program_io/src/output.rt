@@ -3,7 +3,7 @@
 ghost use Rattle.std.specs.Prelude.{◌≡◌, OnOk, OnErr};
 ghost use Rattle.std.specs.Io.KnownBytes.{Appends};
 ghost use Rattle.xs_base.specs.Faults.{NeverFalls, Rose};
-ghost use Rattle.xs_drive.specs.Ends.{AppendsFront};
+ghost use Rattle.program_io.specs.Ends.{AppendsFront};
 
 use xs_base::{Failed, Sink};
 

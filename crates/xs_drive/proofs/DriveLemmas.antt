@@ -6,7 +6,8 @@ use Rattle.std.specs.Io.KnownBytes.{Appends, Consumes, IsAtEnd}
 use Rattle.machine_model.specs.Machine.{new_machine}
 use Rattle.world_model.specs.Lines.{lines_of}
 use Rattle.world_model.specs.FirstScript.{first_messages, served_all, is_first_script, first_transcript, transcript_or_none}
-use Rattle.xs_drive.specs.Ends.{AppendsFront, IsPlayable, IsTranscript}
+use Rattle.program_io.specs.Ends.{AppendsFront}
+use Rattle.xs_drive.specs.Ends.{IsPlayable, IsTranscript}
 
 -- what holds of a text that was read to its end holds of what the source had left
 pub of_whole : (old new : Option (List ℕ)) (text : List ℕ) (P : List ℕ → Type 0) → Consumes old new text → IsAtEnd new → P text → IfSome old P

@@ -5,8 +5,6 @@
 #![tactic(auto)]
 
 mod first_script;
-mod input;
-mod output;
 mod play;
 mod print;
 mod status;
@@ -18,12 +16,12 @@ ghost use Rattle.std.specs.Prelude.{◌≡◌, ◌⊎◌, ◌↔◌, ◌<◌, �
 ghost use Rattle.std.specs.Io.KnownBytes.{Appends, Keeps, IsAtEnd};
 ghost use Rattle.xs_base.specs.Faults.{NeverFalls, Rose};
 ghost use Rattle.world_model.specs.FirstScript.{first_transcript, is_first_script};
-ghost use Rattle.xs_drive.specs.Ends.{AppendsFront, IsPlayable, is_run, script_limit};
+ghost use Rattle.program_io.specs.Ends.{AppendsFront, input_limit};
+ghost use Rattle.xs_drive.specs.Ends.{IsPlayable, is_run};
 ghost use Rattle.xs_drive.specs.Statuses.{is_before_run};
 
-use crate::input::{InputFault, read_all};
-use crate::output::write_all;
 use crate::play::transcript_of;
+use program_io::{InputFault, read_all, write_all};
 pub use status::Status;
 use std::alloc::Global;
 use xs_base::{Sink, Source, Vault};
@@ -46,10 +44,10 @@ pub fn drive<S: Source, K: Sink, V: Vault>(
 
     // When each other status comes; want of memory is free.
     ensures usage { (result ≡ Status.Usage) ↔ (is_run (map string_bytes words.now) ≡ false) }
-    ensures too_long { result ≡ Status.TooLong → IfSome (S.left src.old) (λ text. script_limit < length text) }
+    ensures too_long { result ≡ Status.TooLong → IfSome (S.left src.old) (λ text. input_limit < length text) }
     ensures read_fault { result ≡ Status.ReadFault → Rose (S.faults src.old) (S.faults src.new) }
     ensures unbuilt { result ≡ Status.Unbuilt → IfSome (S.left src.old) (λ text.
-        (length text ≤ script_limit) × (is_first_script text ≡ false)) }
+        (length text ≤ input_limit) × (is_first_script text ≡ false)) }
     ensures write_fault { result ≡ Status.WriteFault → Rose (K.faults out.old) (K.faults out.new) }
     ensures write_fault_of_script { result ≡ Status.WriteFault → IfSome (S.left src.old) IsPlayable }
 

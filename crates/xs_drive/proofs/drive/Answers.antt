@@ -1,7 +1,8 @@
 use Rattle.std.proofs.Common.{◌≡◌, ◌≤◌, false, List, ℕ, length, subst, sym, take}
 use Rattle.std.specs.Io.KnownBytes.{Appends}
 use Rattle.world_model.specs.FirstScript.{is_first_script, first_transcript}
-use Rattle.xs_drive.specs.Ends.{AppendsFront, IsPlayable, script_limit}
+use Rattle.program_io.specs.Ends.{AppendsFront, input_limit}
+use Rattle.xs_drive.specs.Ends.{IsPlayable}
 use Rattle.xs_drive.proofs.DriveLemmas.{of_whole, not_both_of, lines_are, none_is}
 use Rattle.xs_drive.proofs.drive.Goals as goal
 
@@ -10,7 +11,7 @@ returns-in-Ok-None-clause-unbuilt g c =
     let source = g.S.Source in
     let text = c.in-Ok.text in
     let none = none_is c.as_slice.result.now text c.in-Ok-None.field-0 c.as_slice.ensures c.in-Ok-None.field-0-is c.in-Ok-None.ensures in
-    λ _. of_whole (source.left c.args.src.now) (source.left c.read_all.new.src) text (λ t. (length t ≤ script_limit) × (is_first_script t ≡ false)) c.in-Ok.ensures.bytes c.in-Ok.ensures.end (c.in-Ok.ensures.short, none)
+    λ _. of_whole (source.left c.args.src.now) (source.left c.read_all.new.src) text (λ t. (length t ≤ input_limit) × (is_first_script t ≡ false)) c.in-Ok.ensures.bytes c.in-Ok.ensures.end (c.in-Ok.ensures.short, none)
 
 pub returns-in-Ok-None-clause-complete : goal.returns-in-Ok-None-clause-complete
 returns-in-Ok-None-clause-complete g c =

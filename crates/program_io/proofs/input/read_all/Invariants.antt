@@ -1,8 +1,8 @@
 use Rattle.std.proofs.Common.{◌≤◌, ◌-◌, ◌+◌, vec_len}
 use Rattle.std.specs.Io.KnownBytes.{Consumes}
 use Rattle.xs_base.specs.Faults.{NeverFalls}
-use Rattle.xs_drive.specs.Ends.{script_limit}
-use Rattle.xs_drive.proofs.input.read_all.Given as goal
+use Rattle.program_io.specs.Ends.{input_limit}
+use Rattle.program_io.proofs.input.read_all.Given as goal
 
 -- the source gave what was read, and the count of its faults is no lower
 abbrev pub invariant-loop-count : goal.invariant-loop-count
@@ -10,9 +10,9 @@ invariant-loop-count g l =
     let source = g.S.Source in
     record {
       given : Consumes (source.left l.fn.src) (source.left l.src) l.text.items;
-      short : vec_len l.text ≤ script_limit;
+      short : vec_len l.text ≤ input_limit;
       counts : NeverFalls (source.faults l.fn.src) (source.faults l.src);
     }
 
 abbrev pub decreases-loop-count : goal.decreases-loop-count
-decreases-loop-count g l = script_limit + 1 - vec_len l.text
+decreases-loop-count g l = input_limit + 1 - vec_len l.text

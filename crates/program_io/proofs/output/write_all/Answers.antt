@@ -1,6 +1,6 @@
 use Rattle.std.proofs.Common.{arith}
-use Rattle.xs_drive.proofs.EndLemmas.{appends_more, appends_rest}
-use Rattle.xs_drive.proofs.output.write_all.Goals as goal
+use Rattle.program_io.proofs.EndLemmas.{appends_more, appends_rest}
+use Rattle.program_io.proofs.output.write_all.Goals as goal
 
 pub loop-done-preserved : goal.loop-done-preserved
 loop-done-preserved g c = record {

@@ -1,7 +1,7 @@
 use Rattle.std.proofs.Common.{◌≤◌, ◌-◌, length, take}
 use Rattle.std.specs.Io.KnownBytes.{Appends}
 use Rattle.xs_base.specs.Faults.{NeverFalls}
-use Rattle.xs_drive.proofs.output.write_all.Given as goal
+use Rattle.program_io.proofs.output.write_all.Given as goal
 
 -- the sink took the bytes so far, and the count of its faults is no lower
 abbrev pub invariant-loop-done : goal.invariant-loop-done

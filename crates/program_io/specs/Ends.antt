@@ -1,0 +1,11 @@
+-- What programs say of their ends. This project's own.
+use Rattle.std.specs.Prelude.{ℕ, List, take, Option}
+use Rattle.std.specs.Io.KnownBytes.{Appends}
+
+-- the most bytes that an input may have
+abbrev pub input_limit : ℕ
+input_limit = 16777216
+
+-- known bytes grew by a front of the text, maybe by none or by all of it
+abbrev pub AppendsFront : Option (List ℕ) → Option (List ℕ) → List ℕ → Type 0
+AppendsFront old new text = (n : ℕ) × Appends old new (take n text)
