@@ -1,5 +1,5 @@
 -- What sinks were told, one piece after another.
-use Rattle.std.proofs.Common.{◌≡◌, ℕ, ◌+◌, ◌-◌, length, length-drop, take_all, arith, List, ◌++◌, take, drop, refl, sym, ap, ◌∙◌, append_assoc, Option, Some, None}
+use Rattle.std.proofs.Common.{ℕ, ◌+◌, ◌-◌, length, length-drop, take_all, arith, List, ◌++◌, take, drop, sym, ap, ◌∙◌, append_assoc, Option, Some, None}
 use Rattle.std.proofs.Math.Seq.{take-add}
 use Rattle.std.specs.Io.KnownBytes.{Appends}
 

@@ -1,5 +1,5 @@
 use Rattle.std.proofs.Common.{arith}
-use Rattle.program_io.proofs.EndLemmas.{appends_more, appends_rest}
+use Rattle.program_io.proofs.EndLemmas.{appends_rest}
 use Rattle.program_io.proofs.output.write_all.Goals as goal
 
 pub loop-done-preserved : goal.loop-done-preserved
