@@ -1,2 +1,3 @@
+pub mod Chunks
 pub mod KeptTree
 pub mod Places

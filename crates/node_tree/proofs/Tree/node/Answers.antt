@@ -1,20 +1,17 @@
-use Rattle.std.proofs.Common.{sym, ap, subst, ◌∙◌}
-use Rattle.xs_model.specs.Paths.{path_cmp}
+use Rattle.std.proofs.Common.{◌+◌, sym, ap, subst, ◌∙◌}
 use Rattle.xs_model.specs.Trees.{node_at}
-use Rattle.node_tree.specs.Places.{IsAt, IsGapFor}
-use Rattle.node_tree.proofs.Rising.{find_at, find_in_gap}
-use Rattle.node_tree.proofs.Shape.{path_cmp_total}
+use Rattle.node_tree.specs.KeptTree.{KeptTree}
+use Rattle.node_tree.specs.Chunks.{IsRangeFor}
+use Rattle.node_tree.proofs.Chunked.{sorted_it, find_it}
 use Rattle.node_tree.proofs.Tree.node.Goals as goal
 
-pub returns-in-Ok-clause-node : goal.returns-in-Ok-clause-node
-returns-in-Ok-clause-node c =
-    let entries = c.self.inside.entries.items in
-    let path = c.args.path.now in
-    let at = subst (λ es. IsAt path_cmp es path c.in-Ok.place) c.deref.ensures.value c.in-Ok.ensures.found in
-    find_at path_cmp path_cmp_total entries path c.in-Ok.place c.index.result.now c.self.invariant.rising at c.index.ensures ∙ ap (λ t. node_at t.nodes path) c.self.view_is
+pub node-requires : goal.node-requires
+node-requires c =
+    let range = subst (λ l. IsRangeFor c.args.path.now l c.chunk_of-at.result (c.chunk_of-at.result + 1)) c.deref.ensures.value c.chunk_of-at.ensures in
+    sorted_it c.args.path.now c.self.inside.chunks.items c.chunk_of-at.result c.index.result.now range c.index.ensures c.self.invariant.tree.rising
 
-pub returns-in-Err-clause-node : goal.returns-in-Err-clause-node
-returns-in-Err-clause-node c =
-    let path = c.args.path.now in
-    let gap = subst (λ es. IsGapFor path_cmp es path c.in-Err.field-0) c.deref.ensures.value c.in-Err.ensures.absent in
-    sym (find_in_gap path_cmp c.self.inside.entries.items path c.in-Err.field-0 gap) ∙ ap (λ t. node_at t.nodes path) c.self.view_is
+pub returns-clause-node : goal.returns-clause-node
+returns-clause-node c =
+    let range = subst (λ l. IsRangeFor c.args.path.now l c.chunk_of-at.result (c.chunk_of-at.result + 1)) c.deref.ensures.value c.chunk_of-at.ensures in
+    c.node.ensures ∙ find_it c.args.path.now c.self.inside.chunks.items c.chunk_of-at.result c.index.result.now range c.index.ensures
+    ∙ ap (λ (t : KeptTree). node_at t.nodes c.args.path.now) c.self.view_is
