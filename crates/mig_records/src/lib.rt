@@ -1,0 +1,21 @@
+//! The records of a migration stream, read from bytes and written to them, by the grammar of `stream_model`.
+//!
+//! [`read_stream`] reads the bytes that are a stream of records and no others, and names the first fault of any
+//! other bytes and its place. [`write_stream`] writes the one canonical text. [`next_place`] steps from the place
+//! of one record to that of the next.
+#![tactic(auto)]
+
+pub mod fields;
+mod places;
+mod reading;
+mod record;
+mod stream;
+#[cfg(test)]
+mod tests;
+mod writing;
+
+pub use places::next_place;
+pub use record::{RawPerms, Record, Records};
+pub use stream::read_stream;
+pub use stream_model::{RawPerm, StreamFault};
+pub use writing::write_stream;
