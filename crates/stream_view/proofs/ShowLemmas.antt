@@ -1,0 +1,82 @@
+-- Writing lines one after the other, through a buffer.
+use Rattle.std.proofs.Common.{◌≡◌, ℕ, ◌+◌, ◌<◌, ◌≤◌, List, [], ◌∷◌, ◌++◌, length, get_or, take, drop, min, Option, Some, None, refl, sym, ap, subst, ◌∙◌, append_assoc, add-one, arith}
+use Rattle.std.specs.Io.KnownBytes.{Appends}
+use Rattle.std.proofs.Math.Seq.{take-append-add, take-append_seam}
+use Rattle.std.proofs.lemmas.List.{append-nil, drop_all, take_min, take-append-le, drop_more, length-map, length-drop, get_or-map}
+use Rattle.stream_model.specs.Record.{StreamRecord}
+use Rattle.stream_model.specs.Places.{next_place, place}
+use Rattle.stream_model.specs.View.{record_line, lines_from}
+use Rattle.mig_records.specs.declared.record.Record.{Record}
+use Rattle.mig_records.specs.RecordView.{record_of, records_of}
+use Rattle.program_io.specs.Ends.{AppendsFront}
+use Rattle.stream_view.specs.Ends.{AppendsBut}
+
+pub appends_then : (old mid new : Option (List ℕ)) (first more : List ℕ) → Appends old mid first → Appends mid new more → Appends old new (first ++ more)
+appends_then None mid new first more a b = tt
+appends_then (Some xs) None new first more a b = absurd a
+appends_then (Some xs) (Some ys) None first more a b = absurd b
+appends_then (Some xs) (Some ys) (Some zs) first more a b = b ∙ ap (λ l. l ++ more) a ∙ append_assoc xs first more
+
+-- what was written is a front
+pub front_so_far : (old new : Option (List ℕ)) (text rest : List ℕ) → AppendsBut old new text rest → AppendsFront old new text
+front_so_far old new text rest h =
+    let same : take (length h.0) text ≡ h.0 = ap (take (length h.0)) h.2 ∙ take-append_seam h.0 rest in
+    (length h.0, subst (λ (x : List ℕ). Appends old new x) (sym same) h.1)
+
+-- and a front of what came next is one too
+pub front_then : (old mid new : Option (List ℕ)) (text lines rest : List ℕ) → AppendsBut old mid text (lines ++ rest) → AppendsFront mid new lines → AppendsFront old new text
+front_then old mid new text lines rest h more =
+    let n = min more.0 (length lines) in
+    let cut : take n lines ≡ take more.0 lines = take_min more.0 lines in
+    let whole : take (length h.0 + n) text ≡ h.0 ++ take n lines = ap (take (length h.0 + n)) h.2 ∙ take-append-add h.0 (lines ++ rest) n ∙ ap (λ (x : List ℕ). h.0 ++ x) (take-append-le n lines rest (omega arith)) in
+    (length h.0 + n, subst (λ (x : List ℕ). Appends old new x) (sym (whole ∙ ap (λ (x : List ℕ). h.0 ++ x) cut)) (appends_then old mid new h.0 (take more.0 lines) h.1 more.1))
+
+-- some lines were written, and others are left
+pub but_then : (old mid new : Option (List ℕ)) (text lines left rest : List ℕ) → AppendsBut old mid text (lines ++ rest) → AppendsBut mid new lines left → AppendsBut old new text (left ++ rest)
+but_then old mid new text lines left rest h more = (
+  h.0 ++ more.0,
+  appends_then old mid new h.0 more.0 h.1 more.1,
+  h.2 ∙ ap (λ (x : List ℕ). h.0 ++ (x ++ rest)) more.2 ∙ ap (λ (x : List ℕ). h.0 ++ x) (append_assoc more.0 left rest) ∙ sym (append_assoc h.0 more.0 (left ++ rest)),
+)
+
+-- all that was left was written
+pub all_then : (old mid new : Option (List ℕ)) (text lines : List ℕ) → AppendsBut old mid text lines → Appends mid new lines → Appends old new text
+all_then old mid new text lines h more = subst (λ (x : List ℕ). Appends old new x) (sym h.2) (appends_then old mid new h.0 lines h.1 more)
+
+-- ---- lines
+
+last_line : (at next : ℕ) (bytes : List ℕ) (rs : List StreamRecord) → (0 < length rs → next ≡ next_place bytes at) → lines_from (next_place bytes at) bytes rs ≡ lines_from next bytes rs
+last_line at next bytes [] h = refl
+last_line at next bytes (r ∷ rs) h = rw (h (omega arith)) refl
+
+-- the line of one record, and those of the records behind it
+pub one_line : (at next number : ℕ) (bytes : List ℕ) (records : List Record) (d : Record) → number < length records → (number + 1 < length records → next ≡ next_place bytes at)
+    → lines_from at bytes (drop number (records_of records)) ≡ record_line at (record_of (get_or records number d)) ++ lines_from next bytes (drop (number + 1) (records_of records))
+one_line at next number bytes records d lt h =
+    let more = drop (number + 1) (records_of records) in
+    let split : drop number (records_of records) ≡ record_of (get_or records number d) ∷ more = drop_more (records_of records) number (record_of d) (omega (arith, length-map records record_of)) ∙ ap (λ (x : StreamRecord). x ∷ more) (get_or-map record_of records number d (record_of d) lt) in
+    ap (lines_from at bytes) split ∙ ap (λ (x : List ℕ). record_line at (record_of (get_or records number d)) ++ x) (last_line at next bytes more (λ left. h (omega (arith, length-drop (number + 1) (records_of records), length-map records record_of))))
+
+-- one more line in the buffer
+pub line_pushed : (old mid : Option (List ℕ)) (text lines pushed : List ℕ) (at next number : ℕ) (bytes : List ℕ) (records : List Record) (item : Record)
+    → AppendsBut old mid text (lines ++ lines_from at bytes (drop number (records_of records))) → pushed ≡ lines ++ record_line at (record_of item) → item ≡ get_or records number item → number < length records
+    → (number + 1 < length records → next ≡ next_place bytes at) → AppendsBut old mid text (pushed ++ lines_from next bytes (drop (number + 1) (records_of records)))
+line_pushed old mid text lines pushed at next number bytes records item h line is lt step =
+    let more = lines_from next bytes (drop (number + 1) (records_of records)) in
+    let here : lines_from at bytes (drop number (records_of records)) ≡ record_line at (record_of item) ++ more = one_line at next number bytes records item lt step ∙ ap (λ (x : Record). record_line at (record_of x) ++ more) (sym is) in
+    let same : lines ++ lines_from at bytes (drop number (records_of records)) ≡ pushed ++ more = ap (λ (x : List ℕ). lines ++ x) here ∙ sym (append_assoc lines (record_line at (record_of item)) more) ∙ ap (λ (x : List ℕ). x ++ more) (sym line) in
+    subst (λ (x : List ℕ). AppendsBut old mid text x) same h
+
+-- no line is left but those in the buffer
+pub none_left : (old new : Option (List ℕ)) (text lines : List ℕ) (at number : ℕ) (bytes : List ℕ) (records : List Record) → length records ≤ number
+    → AppendsBut old new text (lines ++ lines_from at bytes (drop number (records_of records))) → AppendsBut old new text lines
+none_left old new text lines at number bytes records le h =
+    let nothing : drop number (records_of records) ≡ [] = drop_all number (records_of records) (omega (arith, length-map records record_of)) in
+    let same : lines ++ lines_from at bytes (drop number (records_of records)) ≡ lines = ap (λ (x : List StreamRecord). lines ++ lines_from at bytes x) nothing ∙ append-nil lines in
+    subst (λ (x : List ℕ). AppendsBut old new text x) same h
+
+-- the place of the next record
+pub place_more : (bytes : List ℕ) (at next number count : ℕ) → number < count → (number < count → at ≡ place bytes number) → (number + 1 < count → next ≡ next_place bytes at)
+    → number + 1 < count → next ≡ place bytes (number + 1)
+place_more bytes at next number count lt here step more =
+    step more ∙ ap (next_place bytes) (here lt) ∙ ap (place bytes) (sym (add-one number))
