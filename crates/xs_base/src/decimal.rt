@@ -1,5 +1,5 @@
 //! Numbers in decimal.
-ghost use Rattle.std.specs.Prelude.{◌≡◌, ◌++◌, ◌≤◌, ◌<◌, length, drop, None, OnOk, OnErr};
+ghost use Rattle.std.specs.Prelude.{◌≡◌, ◌++◌, ◌≤◌, ◌<◌, length, drop, None, IfOk, OnOk, OnErr};
 ghost use Rattle.std.specs.Fmt.{decimal};
 ghost use Rattle.text_model.specs.Decimal.{bad_digit_from, digits_number, number_of};
 
@@ -13,7 +13,8 @@ const MAX_DIGITS: usize = 20;
 /// No byte is answered before a byte that is no digit, and that before a number that is too large. O(length of
 /// the text).
 pub fn read_decimal(text: &[u8], max: u64) -> Result<u64, NumFault>
-    ensures { result ≡ number_of max text.now }
+    ensures value { result ≡ number_of max text.now }
+    ensures within { IfOk result (λ number. number ≤ max) }
 {
     if text.is_empty() {
         return Err(NumFault::Empty);
