@@ -73,6 +73,13 @@ impl Bytes {
     {
         self.items.extend_from_slice(more)
     }
+
+    /// Removes all bytes. It keeps its memory. O(1).
+    pub fn clear(&mut self)
+        ensures { self.new ≡ [] }
+    {
+        self.items.clear();
+    }
 }
 
 impl PartialEq for Bytes {

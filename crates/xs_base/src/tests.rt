@@ -59,6 +59,8 @@ fn bytes_grow(rt: HostRuntime) -> Result<(), Fail> {
     bytes.push(&[3])?;
     assert_eq!(rt; bytes, Bytes::copy(rt.alloc(), &[1, 2, 3])?);
     assert!(rt; bytes.len() == 3 && !bytes.is_empty());
+    bytes.clear();
+    assert!(rt; bytes.is_empty());
     Ok(())
 }
 
