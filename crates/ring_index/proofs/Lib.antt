@@ -1,2 +1,2 @@
 mod RingLemmas
-mod PipeLemmas
+pub mod PipeLemmas

@@ -121,3 +121,8 @@ held-take_some ring n whole there =
           held_bad (take_some n ring) (let low = whole.cons in omega arith) ∙ sym (ap (λ m. drop m (held ring)) none ∙ held_bad ring many)
       | inr few ↦ (take_removes ring (held ring) n (holds_held ring whole few) there).content
     ]
+
+-- a take leaves good indices
+pub good_take : (ring : Ring) (n : ℕ) → IsRing ring → n ≤ filled ring → is_bad ring ≡ false → is_bad (take_some n ring) ≡ false
+good_take ring n whole there good =
+    (take_removes ring (held ring) n (holds_held ring whole (ltb-false 1024 (used ring) good)) there).good

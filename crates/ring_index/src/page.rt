@@ -1,6 +1,6 @@
 //! The page.
-ghost use Rattle.std.specs.Prelude.{◌≡◌, ◌++◌, IfOk, OnErr, length, take, drop, min};
-ghost use Rattle.world_model.specs.Rings.{free, filled, used, held, put_all, take_some, fresh_page, with_request, with_reply, with_error, poked};
+ghost use Rattle.std.specs.Prelude.{◌≡◌, ◌++◌, false, IfOk, OnErr, length, take, drop, min};
+ghost use Rattle.world_model.specs.Rings.{free, filled, used, is_bad, held, put_all, take_some, fresh_page, with_request, with_reply, with_error, poked};
 ghost use Rattle.ring_index.specs.Answers.{unless_bad, used_unless_bad, free_unless_bad, words_of};
 ghost use Rattle.ring_index.specs.Pipes.{IsPage};
 
@@ -82,13 +82,14 @@ impl PlainPage {
     }
 
     /// The server takes as many bytes of the request ring as `into` has room for, and is told how many. The
-    /// rest of `into` is as before. Where the indices are bad it is told these, and nothing changes.
-    /// O(bytes moved).
+    /// rest of `into` is as before. Where the indices are bad it is told these, and nothing changes; a take
+    /// leaves indices that are good. O(bytes moved).
     pub fn server_take(&mut self, into: &mut [u8]) -> Result<u32, BadIndex>
         ensures count { result ≡ unless_bad self.old.request (min (length into.old) (used self.old.request)) }
         ensures bytes { IfOk result (λ n. into.new ≡ take n (held self.old.request) ++ drop n into.old) }
         ensures after { IfOk result (λ n. self.new ≡ with_request (take_some n self.old.request) self.old) }
         ensures content { IfOk result (λ n. held self.new.request ≡ drop n (held self.old.request)) }
+        ensures good { IfOk result (λ _. is_bad self.new.request ≡ false) }
         ensures err { OnErr result ((self.new ≡ self.old) × (into.new ≡ into.old)) }
     {
         let n = into.len().min(self.request.used()? as usize);

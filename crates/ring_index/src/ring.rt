@@ -1,7 +1,7 @@
 //! One ring of a page.
 
-ghost use Rattle.std.specs.Prelude.{◌≡◌, ◌^◌, ◌<◌, ◌≤◌, ◌++◌, length, take, drop};
-ghost use Rattle.world_model.specs.Rings.{empty_ring, free, filled, held, put_all, take_some, used, with_cons, with_prod};
+ghost use Rattle.std.specs.Prelude.{◌≡◌, ◌^◌, ◌<◌, ◌≤◌, ◌++◌, false, length, take, drop};
+ghost use Rattle.world_model.specs.Rings.{empty_ring, free, filled, held, is_bad, put_all, take_some, used, with_cons, with_prod};
 ghost use Rattle.ring_index.specs.Answers.{used_unless_bad, free_unless_bad};
 ghost use Rattle.ring_index.specs.Pipes.{IsRing};
 
@@ -92,6 +92,7 @@ impl Ring {
         ensures bytes { into.new ≡ take (length into.old) (held self.old) }
         ensures after { self.new ≡ take_some (length into.old) self.old }
         ensures content { held self.new ≡ drop (length into.old) (held self.old) }
+        ensures good { is_bad self.old ≡ false → is_bad self.new ≡ false }
     {
         let at = (self.cons % RING_SIZE) as usize;
         read_round(&self.cells, at, into);
