@@ -1,2 +1,2 @@
 pub mod MessageLemmas
-mod LawLemmas
+pub mod LawLemmas
