@@ -1,0 +1,32 @@
+//! A map from ids of 32 bits to items.
+//!
+//! Contracts see an [`IdMap`] as the list of its entries in rising order of their ids, and speak of it by std's
+//! `find`, `put` and `where_key` with `nat_cmp`. Memory is taken by [`IdMap::add`] alone.
+//!
+//! To change an item, take it by [`IdMap::get_mut`] and call what changes it:
+//!
+//! ```text
+//! fn mark(map: &mut IdMap<Marked>, id: u32)
+//!     ensures there { IfSome (find nat_cmp id map.old)
+//!         (λ item. map.new ≡ put nat_cmp id (record item { mark = true }) map.old) }
+//!     ensures absent { find nat_cmp id map.old ≡ None → map.new ≡ map.old }
+//! {
+//!     if let Some(item) = map.get_mut(id) {
+//!         item.set_mark();
+//!     }
+//! }
+//! ```
+//!
+//! Where `set_mark` has the clause `self.new ≡ record self.old { mark = true }`, this is proved with no answer: what
+//! is left behind the reference is put at the id.
+//!
+//! To go over all items, ask [`IdMap::next_after`] for one id after the other. Each answer takes the first of the
+//! entries that are left.
+#![tactic(auto)]
+
+mod map;
+#[cfg(test)]
+mod tests;
+
+pub use map::IdMap;
+pub use xs_base::NoMemory;

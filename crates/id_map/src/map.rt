@@ -1,0 +1,149 @@
+//! The map: a list of entries in rising order of their ids.
+
+ghost use Rattle.std.specs.Prelude.{◌≡◌, ◌==◌, ◌≤◌, not, true, [], None, is_some, length, drop, IfSome, IfOk, IfErr, OnOk, OnErr};
+ghost use Rattle.std.specs.Borrow.{LendsIf, sem};
+ghost use Rattle.std.specs.FinMap.{find, put, is_sorted};
+ghost use Rattle.std.specs.FinMap.Entries.{where_key};
+ghost use Rattle.std.specs.Option.{option_copied, option_copied_mut};
+ghost use Rattle.std.specs.Ordering.{nat_cmp};
+ghost use Rattle.id_map.specs.Ids.{above, first_id, IsNext};
+ghost use Rattle.id_map.specs.Places.{IsAt, IsGapFor};
+ghost use Rattle.id_map.specs.contracts.map.IdMap.{the_row};
+
+use std::alloc::Global;
+use std::marker::Model;
+use xs_base::NoMemory;
+
+/// A map from ids to items: a list in rising order of the ids, searched by halves. Contracts see its entries.
+#[derive(Debug, Drop)]
+pub struct IdMap<T> {
+    entries: Vec<(u32, T)>,
+}
+
+impl<T> Model for IdMap<T> {
+    ghost use Rattle.std.specs.Prelude.{◌≡◌, ℕ, true, List};
+    ghost use Rattle.std.specs.FinMap.{is_sorted};
+    ghost use Rattle.std.specs.Ordering.{nat_cmp};
+
+    ghost Value = { List (ℕ × T) };
+
+    ghost view = { λ map. map.entries.items };
+
+    ghost invariant = { λ map. is_sorted nat_cmp map.entries.items ≡ true };
+}
+
+/// The place of an id among entries in rising order, or else the place at which it would stand. O(log entries).
+fn place_of<T>(entries: &[(u32, T)], id: u32) -> Result<usize, usize>
+    requires { is_sorted nat_cmp entries.now ≡ true }
+    ensures found { IfOk result (IsAt entries.now id) }
+    ensures absent { IfErr result (IsGapFor entries.now id) }
+{
+    entries.binary_search_by(|entry| entry.0.cmp(&id))
+}
+
+/// The place from which on the entries have higher ids than this one. O(log entries).
+fn place_above<T>(entries: &[(u32, T)], id: u32) -> usize
+    requires { is_sorted nat_cmp entries.now ≡ true }
+    ensures within { result ≤ length entries.now }
+    ensures above { drop result entries.now ≡ above id entries.now }
+{
+    match place_of(entries, id) {
+        Ok(place) => place + 1,
+        Err(place) => place,
+    }
+}
+
+/// The first id among entries that is above this one. O(log entries).
+fn id_above<T>(entries: &[(u32, T)], id: u32) -> Option<u32>
+    requires { is_sorted nat_cmp entries.now ≡ true }
+    ensures { result ≡ first_id (above id entries.now) }
+{
+    entries.get(place_above(entries, id)).map(|entry| entry.0)
+}
+
+impl<T> IdMap<T> {
+    /// No items. It takes no memory until the first `add`.
+    pub fn new(alloc: Global) -> IdMap<T>
+        ensures { result ≡ [] }
+    {
+        IdMap {
+            entries: Vec::new(alloc),
+        }
+    }
+
+    /// How many items there are. O(1).
+    pub fn len(&self) -> usize
+        ensures { result ≡ length self.now }
+    {
+        self.entries.len()
+    }
+
+    /// Whether there is no item. O(1).
+    pub fn is_empty(&self) -> bool
+        ensures { result ≡ (length self.now == 0) }
+    {
+        self.entries.is_empty()
+    }
+
+    /// The item of an id, if it has one. O(log items).
+    pub fn get(&self, id: u32) -> Option<&T>
+        ensures value { option_copied result ≡ find nat_cmp id self.now }
+        ensures rising { is_sorted nat_cmp self.now ≡ true }
+    {
+        match place_of(&self.entries, id) {
+            Ok(place) => Some(&self.entries[place].1),
+            Err(_) => None,
+        }
+    }
+
+    /// The item of an id, if it has one, to be changed. O(log items).
+    pub fn get_mut(&mut self, id: u32) -> Option<&mut T>
+        ensures* writes_back { sem 𝓛 (LendsIf (the_row T.row) T.row self.entry result (λ item. put nat_cmp id item self.old) self.old) }
+        ensures value { option_copied_mut result ≡ find nat_cmp id self.old }
+        ensures rising { is_sorted nat_cmp self.old ≡ true }
+    {
+        match place_of(&self.entries, id) {
+            Ok(place) => Some(&mut self.entries[place].1),
+            Err(_) => None,
+        }
+    }
+
+    /// The least id above this one that has an item, whether this one has an item or not. O(log items).
+    pub fn next_after(&self, id: u32) -> Option<u32>
+        ensures next { result ≡ first_id (above id self.now) }
+        ensures least { IfSome result (IsNext self.now id) }
+        ensures walk { IfSome result (λ next. above next self.now ≡ drop 1 (above id self.now)) }
+    {
+        id_above(&self.entries, id)
+    }
+}
+
+impl<T: Drop> IdMap<T> {
+    /// Adds the item of an id that has none. Refused, the map is as before, and the item is dropped. It moves the
+    /// items of higher ids.
+    pub fn add(&mut self, id: u32, item: T) -> Result<(), NoMemory>
+        requires { find nat_cmp id self.old ≡ None }
+        ensures ok { OnOk result (self.new ≡ put nat_cmp id item self.old) }
+        ensures err { OnErr result (self.new ≡ self.old) }
+    {
+        match place_of(&self.entries, id) {
+            Ok(_) => unreachable!(),
+            Err(place) => self.entries.insert(place, (id, item))?,
+        }
+        Ok(())
+    }
+
+    /// Removes the item of an id, and says whether there was one. It moves the items of higher ids.
+    pub fn remove(&mut self, id: u32) -> bool
+        ensures found { result ≡ is_some (find nat_cmp id self.old) }
+        ensures after { self.new ≡ where_key nat_cmp (λ key. not (id == key)) self.old }
+    {
+        match place_of(&self.entries, id) {
+            Ok(place) => {
+                self.entries.remove(place);
+                true
+            }
+            Err(_) => false,
+        }
+    }
+}
