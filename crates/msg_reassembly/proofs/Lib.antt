@@ -1,0 +1,3 @@
+mod CutLemmas
+mod FrontLemmas
+pub mod IntakeLemmas
