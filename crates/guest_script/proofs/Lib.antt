@@ -1,0 +1,5 @@
+pub mod LineLemmas
+pub mod FieldLemmas
+pub mod DraftLemmas
+pub mod SoundLemmas
+pub mod PrintLemmas

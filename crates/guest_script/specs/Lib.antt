@@ -1,0 +1,4 @@
+pub mod Views
+pub mod Parts
+pub mod Drafts
+pub mod Printed
