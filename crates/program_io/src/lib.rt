@@ -7,4 +7,4 @@ mod output;
 mod tests;
 
 pub use input::{INPUT_LIMIT, InputFault, read_all};
-pub use output::write_all;
+pub use output::{write_all, write_if_many};

@@ -1,6 +1,6 @@
 //! An input that is read whole, and a text that is written whole.
 
-use crate::{InputFault, read_all, write_all};
+use crate::{InputFault, read_all, write_all, write_if_many};
 use std::test::Fail;
 use xs_base::{Bytes, Calls, MemSink, MemSource};
 
@@ -30,5 +30,21 @@ fn writes_all_bytes(rt: HostRuntime) -> Result<(), Fail> {
     let mut out = MemSink::new(alloc, 16, Calls::new(alloc))?;
     assert!(rt; write_all(&mut out, b"a text").is_ok());
     assert_eq!(rt; out.bytes(), b"a text".as_slice());
+    Ok(())
+}
+
+#[test]
+fn writes_lines_once_they_are_many(rt: HostRuntime) -> Result<(), Fail> {
+    let alloc = rt.alloc();
+    let few = [b'-'; 16_383];
+    let many = [b'-'; 16_384];
+    let rows = [(few.as_slice(), 0), (many.as_slice(), 16_384)];
+    for (bytes, written) in &rows {
+        let mut lines = Bytes::copy(alloc, bytes)?;
+        let mut out = MemSink::new(alloc, 16_384, Calls::new(alloc))?;
+        assert!(rt; write_if_many(&mut lines, &mut out).is_ok());
+        assert_eq!(rt; out.bytes().len(), *written);
+        assert_eq!(rt; lines.len(), bytes.len() - written);
+    }
     Ok(())
 }

@@ -1,6 +1,6 @@
 //! Writes the lines of a stream.
 
-ghost use Rattle.std.specs.Prelude.{◌≡◌, ◌+◌, ◌<◌, ◌≤◌, ◌++◌, ℕ, List, length, codes, IfOk, OnOk};
+ghost use Rattle.std.specs.Prelude.{◌≡◌, ◌+◌, ◌<◌, ◌≤◌, ◌++◌, ℕ, List, length, codes, OnOk};
 ghost use Rattle.std.specs.Io.KnownBytes.{Appends};
 ghost use Rattle.xs_base.specs.Faults.{NeverFalls, Rose};
 ghost use Rattle.stream_model.specs.Spelling.{IsStream};
@@ -8,17 +8,13 @@ ghost use Rattle.stream_model.specs.Places.{place, next_place};
 ghost use Rattle.stream_model.specs.View.{view_text};
 ghost use Rattle.mig_records.specs.RecordView.{records_of};
 ghost use Rattle.program_io.specs.Ends.{AppendsFront};
-ghost use Rattle.stream_view.specs.Ends.{AppendsBut};
 ghost use Rattle.stream_view.specs.declared.show.ShowFault.TheVariants.{NoMemory as no_memory, WriteFault as write_fault};
 
 use crate::lines::push_line;
 use mig_records::{Records, next_place};
-use program_io::write_all;
+use program_io::{write_all, write_if_many};
 use std::alloc::Global;
 use xs_base::{Bytes, Failed, NoMemory, Sink};
-
-/// From so many bytes of lines on they are written.
-const BUFFER: usize = 65_536;
 
 /// Why not all lines were written.
 #[derive(Clone, Copy, Debug, PartialEq, Eq)]
@@ -58,20 +54,6 @@ fn place_behind(bytes: &[u8], records: &Records, number: usize, at: usize) -> us
     }
 }
 
-/// The lines, or where these are many, none, and then they were written.
-fn write_if_many<K: Sink>(alloc: Global, lines: Bytes, out: &mut K) -> Result<Bytes, ShowFault>
-    ensures ok { IfOk result (λ rest. AppendsBut (K.written out.old) (K.written out.new) lines rest) }
-    ensures front { AppendsFront (K.written out.old) (K.written out.new) lines }
-    ensures failed { result ≡ Err ShowFault.WriteFault → Rose (K.faults out.old) (K.faults out.new) }
-    ensures counts { NeverFalls (K.faults out.old) (K.faults out.new) }
-{
-    if lines.len() < BUFFER {
-        return Ok(lines);
-    }
-    write_all(out, lines.as_slice())?;
-    Ok(Bytes::new(alloc))
-}
-
 /// Writes the line of a stream's header and the line of each of its records, through one buffer. Refused, a front
 /// of the lines was written. O(length of the lines).
 pub fn write_lines<K: Sink>(
@@ -91,7 +73,7 @@ pub fn write_lines<K: Sink>(
     for (number, item) in records.as_slice().iter().enumerate() {
         push_line(&mut lines, at, item)?;
         at = place_behind(bytes, records, number, at);
-        lines = write_if_many(alloc, lines, out)?;
+        write_if_many(&mut lines, out)?;
     }
     write_all(out, lines.as_slice())?;
     Ok(())

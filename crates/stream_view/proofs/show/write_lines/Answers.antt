@@ -1,15 +1,16 @@
 use Rattle.std.proofs.Common.{arith}
-use Rattle.stream_view.proofs.ShowLemmas.{front_so_far, front_then, but_then, all_then, line_pushed, none_left, place_more}
+use Rattle.program_io.proofs.EndLemmas.{front_so_far, front_then, but_then, all_then}
+use Rattle.stream_view.proofs.ShowLemmas.{line_pushed, none_left, place_more}
 use Rattle.stream_view.proofs.show.write_lines.Goals as goal
 
 pub returns-in_err-push_line-clause-front : goal.returns-in_err-push_line-clause-front
 returns-in_err-push_line-clause-front g c = front_so_far _ _ _ _ c.loop-number.invariant.all
 
-pub returns-in_err-lines-2-clause-front : goal.returns-in_err-lines-2-clause-front
-returns-in_err-lines-2-clause-front g c =
+pub returns-in_err-write_if_many-clause-front : goal.returns-in_err-write_if_many-clause-front
+returns-in_err-write_if_many-clause-front g c =
     let is = rw c.as_slice-item-items.ensures at c.item-item.is in
     let lt = rw c.as_slice-item-items.ensures at c.loop-number-test.true in
-    front_then _ _ _ _ c.push_line.new.line _ (line_pushed _ _ _ c.loop-number.lines c.push_line.new.line c.loop-number.at c.place_behind-at.result c.loop-number.number c.args.bytes.now c.args.records.now c.item-item.result c.loop-number.invariant.all c.in_ok-push_line.ensures is lt c.place_behind-at.ensures) c.in_err-lines-2.ensures.front
+    front_then _ _ _ _ c.push_line.new.line _ (line_pushed _ _ _ c.loop-number.lines c.push_line.new.line c.loop-number.at c.place_behind-at.result c.loop-number.number c.args.bytes.now c.args.records.now c.item-item.result c.loop-number.invariant.all c.in_ok-push_line.ensures is lt c.place_behind-at.ensures) c.in_err-write_if_many.ensures.front
 
 pub loop-number-preserved : goal.loop-number-preserved
 loop-number-preserved g c =
@@ -17,8 +18,8 @@ loop-number-preserved g c =
     let lt = rw c.as_slice-item-items.ensures at c.loop-number-test.true in
     record {
       here = place_more c.args.bytes.now c.loop-number.at c.place_behind-at.result c.loop-number.number _ lt c.loop-number.invariant.here c.place_behind-at.ensures;
-      all = but_then _ _ _ _ c.push_line.new.line _ _ (line_pushed _ _ _ c.loop-number.lines c.push_line.new.line c.loop-number.at c.place_behind-at.result c.loop-number.number c.args.bytes.now c.args.records.now c.item-item.result c.loop-number.invariant.all c.in_ok-push_line.ensures is lt c.place_behind-at.ensures) c.in_ok-lines-2.ensures.ok;
-      counts = omega (arith, c.in_ok-lines-2.ensures.counts);
+      all = but_then _ _ _ _ c.push_line.new.line _ _ (line_pushed _ _ _ c.loop-number.lines c.push_line.new.line c.loop-number.at c.place_behind-at.result c.loop-number.number c.args.bytes.now c.args.records.now c.item-item.result c.loop-number.invariant.all c.in_ok-push_line.ensures is lt c.place_behind-at.ensures) c.in_ok-write_if_many.ensures.ok;
+      counts = omega (arith, c.in_ok-write_if_many.ensures.counts);
     }
 
 pub returns-in_err-write_all-clause-front : goal.returns-in_err-write_all-clause-front

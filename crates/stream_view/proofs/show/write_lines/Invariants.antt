@@ -3,7 +3,7 @@ use Rattle.xs_base.specs.Faults.{NeverFalls}
 use Rattle.stream_model.specs.Places.{place}
 use Rattle.stream_model.specs.View.{lines_from, view_text}
 use Rattle.mig_records.specs.RecordView.{records_of}
-use Rattle.stream_view.specs.Ends.{AppendsBut}
+use Rattle.program_io.specs.Ends.{AppendsBut}
 use Rattle.stream_view.proofs.show.write_lines.Given as goal
 
 -- what was written, the lines in the buffer and those still to come are all lines
