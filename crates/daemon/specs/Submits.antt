@@ -1,0 +1,90 @@
+-- What comes of a request that is handed to a daemon, and of the bytes that leave it. This project's own; one request is
+-- one step of the sequential store.
+use Rattle.std.specs.Prelude.{◌≡◌, ℕ, ◌<◌, ◌≤◌, ◌==◌, not, List, [], ◌∷◌, ◌++◌, length, take, drop, map, min, nat_lt, if◌then◌else◌, Option, Some, None}
+use Rattle.std.specs.Ordering.{nat_cmp}
+use Rattle.std.specs.FinMap.{find, put}
+use Rattle.std.specs.FinMap.Entries.{where_key}
+use Rattle.machine_model.specs.Machine.{Machine, Asked, Lost, Step, built_step, step_with}
+use Rattle.machine_model.specs.History.{sent_to}
+use Rattle.daemon.specs.declared.answer.Door.{Door}
+use Rattle.daemon.specs.declared.answer.Door.TheVariants.{Same}
+use Rattle.daemon.specs.declared.answer.Submit.{Submit}
+use Rattle.daemon.specs.declared.answer.Submit.TheVariants as submit
+use Rattle.daemon.specs.declared.answer.Pull.{Pull}
+use Rattle.daemon.specs.declared.answer.Pull.TheVariants as pull
+use Rattle.daemon.specs.Keeps.{Kept, StandsFor}
+
+-- so many unsent bytes may a connection have, for a request to be taken, and after any request
+abbrev pub held_limit : ℕ
+held_limit = 32768
+
+abbrev pub crowd_limit : ℕ
+crowd_limit = 16777216
+
+-- UNSENT BYTES after a step: what is sent joins them, and a new connection had none
+abbrev pub bytes_or_none : Option (List ℕ) → List ℕ
+bytes_or_none None = []
+bytes_or_none (Some bytes) = bytes
+
+abbrev pub unsent_after : Step → List (ℕ × List ℕ) → List (ℕ × List ℕ)
+unsent_after stepped unsent =
+    map (λ e. (e.0, bytes_or_none (find nat_cmp e.0 unsent) ++ sent_to e.0 stepped.1)) stepped.0.conns
+
+-- the least connection that would have too many
+abbrev pub crowded : List (ℕ × List ℕ) → Option ℕ
+crowded [] = None
+crowded (e ∷ es) = if nat_lt crowd_limit (length e.1) then Some e.0 else crowded es
+
+-- A REQUEST is taken where its connection has few unsent bytes and nobody would have too many
+pub record Takes (old : Kept) (m : Machine) (c : ℕ) (message : List ℕ) (told : Door) (new : Kept) : Type 0 where
+  pub bytes : List ℕ
+  pub there : find nat_cmp c old.unsent ≡ Some bytes
+  pub few : length bytes < held_limit
+  pub uncrowded : crowded (unsent_after (built_step m (Asked c message)) old.unsent) ≡ None
+  pub stands : StandsFor new (built_step m (Asked c message)).0
+  pub unsent : new.unsent ≡ unsent_after (built_step m (Asked c message)) old.unsent
+  -- no request of this version makes or removes a connection
+  pub door : told ≡ Same
+  pub ids : map (λ e. e.0) (built_step m (Asked c message)).0.conns ≡ map (λ e. e.0) m.conns
+
+-- or not, and then nothing changes
+pub record IsHeld (old : Kept) (c : ℕ) (n : ℕ) (new : Kept) : Type 0 where
+  pub bytes : List ℕ
+  pub there : find nat_cmp c old.unsent ≡ Some bytes
+  pub number : n ≡ length bytes
+  pub many : held_limit ≤ n
+  pub same : new ≡ old
+
+pub record IsCrowded (old : Kept) (m : Machine) (c : ℕ) (message : List ℕ) (d : ℕ) (new : Kept) : Type 0 where
+  pub bytes : List ℕ
+  pub there : find nat_cmp c old.unsent ≡ Some bytes
+  pub few : length bytes < held_limit
+  pub crowds : crowded (unsent_after (built_step m (Asked c message)) old.unsent) ≡ Some d
+  pub same : new ≡ old
+
+-- what a daemon answers to a request, for each store that it stands for
+abbrev pub Submits : Kept → ℕ → List ℕ → Kept → Submit → Type 0
+Submits old c message new (submit.Done door) = (m : Machine) → StandsFor old m → Takes old m c message door new
+Submits old c message new (submit.Held n) = IsHeld old c n new
+Submits old c message new (submit.Crowded d) = (m : Machine) → StandsFor old m → IsCrowded old m c message d new
+Submits old c message new submit.Gone = (find nat_cmp c old.unsent ≡ None) × (new ≡ old)
+
+-- UNSENT BYTES LEAVE: the first of them, as many as there are and as find room
+pub record Pulls (old : Kept) (c : ℕ) (into : List ℕ) (n : ℕ) (into_new : List ℕ) (new : Kept) : Type 0 where
+  pub bytes : List ℕ
+  pub there : find nat_cmp c old.unsent ≡ Some bytes
+  pub some : 0 < length bytes
+  pub count : n ≡ min (length into) (length bytes)
+  pub taken : into_new ≡ take n bytes ++ drop n into
+  pub unsent : new.unsent ≡ put nat_cmp c (drop n bytes) old.unsent
+  pub stands : (m : Machine) → StandsFor old m → StandsFor new m
+
+abbrev pub Pulled : Kept → ℕ → List ℕ → Kept → List ℕ → Pull → Type 0
+Pulled old c into new into_new (pull.Got n) = Pulls old c into n into_new new
+Pulled old c into new into_new pull.Nothing = (find nat_cmp c old.unsent ≡ Some []) × ((new ≡ old) × (into_new ≡ into))
+Pulled old c into new into_new pull.Gone = (find nat_cmp c old.unsent ≡ None) × ((new ≡ old) × (into_new ≡ into))
+
+-- A CONNECTION IS LOST, with its unsent bytes; every other one stays as it is
+pub record Drops (old : Kept) (c : ℕ) (new : Kept) : Type 0 where
+  pub unsent : new.unsent ≡ where_key nat_cmp (λ d. not (c == d)) old.unsent
+  pub stands : (m : Machine) → StandsFor old m → StandsFor new (step_with [] m (Lost c)).0
