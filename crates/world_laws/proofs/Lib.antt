@@ -1,0 +1,17 @@
+pub mod EntryLemmas
+pub mod ConnLemmas
+pub mod RunLemmas
+pub mod StepLemmas
+pub mod FlowLemmas
+pub mod SoundLemmas
+pub mod GuestLemmas
+pub mod ServerLemmas
+pub mod MadeLemmas
+pub mod LifeLemmas
+pub mod TurnLemmas
+pub mod StoreLemmas
+pub mod ServeLemmas
+pub mod StartLemmas
+pub mod PlainLemmas
+pub mod HandoverLemmas
+pub mod ScriptLemmas
