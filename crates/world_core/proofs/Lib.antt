@@ -1,0 +1,9 @@
+pub mod ChannelLemmas
+pub mod StandLemmas
+pub mod ServedLemmas
+pub mod EventLemmas
+pub mod DoLemmas
+pub mod OutLemmas
+pub mod InLemmas
+pub mod GuestLemmas
+pub mod BeginLemmas

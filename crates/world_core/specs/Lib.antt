@@ -1,0 +1,3 @@
+pub mod Guests
+pub mod Stands
+pub mod Parts
