@@ -1,5 +1,4 @@
 pub mod Lines
-pub mod FirstScript
 pub mod Rings
 pub mod Fronts
 pub mod Worlds

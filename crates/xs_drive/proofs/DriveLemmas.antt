@@ -1,13 +1,17 @@
 -- What `drive` says of its ends, from what its parts say.
-use Rattle.std.proofs.Common.{◌≡◌, ℕ, Bool, true, false, List, [], ◌++◌, refl, sym, ap, subst, ◌∙◌, Option, Some, None, IfSome, IsSome, is_some}
+use Rattle.std.proofs.Common.{◌≡◌, ℕ, ◌≤◌, Bool, true, false, List, [], ◌++◌, length, map, refl, sym, ap, subst, ◌∙◌, Option, Some, None, Result, Ok, Err, IfSome, IsSome}
 use Rattle.std.proofs.lemmas.Bool.{false≢true}
 use Rattle.std.proofs.lemmas.List.{append-nil}
 use Rattle.std.specs.Io.KnownBytes.{Appends, Consumes, IsAtEnd}
-use Rattle.machine_model.specs.Machine.{new_machine}
-use Rattle.world_model.specs.Lines.{lines_of}
-use Rattle.world_model.specs.FirstScript.{first_messages, served_all, is_first_script, first_transcript, transcript_or_none}
-use Rattle.program_io.specs.Ends.{AppendsFront}
-use Rattle.xs_drive.specs.Ends.{IsPlayable, IsTranscript}
+use Rattle.xs_model.specs.Requests.{built_types}
+use Rattle.world_model.specs.declared.LineKind.{LineKind}
+use Rattle.world_model.specs.Worlds.{new_world}
+use Rattle.world_model.specs.Scripts.{Script, LineFault, script_of}
+use Rattle.world_model.specs.Transcripts.{lines_from, transcript_of}
+use Rattle.world_laws.proofs.ScriptLemmas.{transcript_left}
+use Rattle.program_io.specs.Ends.{AppendsFront, input_limit}
+use Rattle.xs_drive.specs.Ends.{IsPlayable, HidesHandovers, IsUnbuilt, IsFaulty, is_unbuilt, transcript}
+use Rattle.xs_drive.proofs.FormLemmas.{starts_new}
 
 -- what holds of a text that was read to its end holds of what the source had left
 pub of_whole : (old new : Option (List ℕ)) (text : List ℕ) (P : List ℕ → Type 0) → Consumes old new text → IsAtEnd new → P text → IfSome old P
@@ -16,31 +20,42 @@ of_whole (Some all) None text P read end holds = absurd read
 of_whole (Some all) (Some rest) text P read end holds =
     subst P (sym (read ∙ ap (λ r. text ++ r) end ∙ append-nil text)) holds
 
--- no text that was read to its end is both
-pub not_both_of : (old new : Option (List ℕ)) (text : List ℕ) {A : Type 0} → Consumes old new text → IsAtEnd new → is_first_script text ≡ false → IfSome old IsPlayable → IsSome old → A
-not_both_of None new text read end not playable some = absurd (false≢true some)
-not_both_of (Some all) None text read end not playable some = absurd read
-not_both_of (Some all) (Some rest) text read end not playable some =
-    let whole = read ∙ ap (λ r. text ++ r) end ∙ append-nil text in
-    absurd (false≢true (sym not ∙ ap is_first_script (sym whole) ∙ playable.script))
+-- and what is told of the source holds of the text
+pub told_of : (old new : Option (List ℕ)) (text : List ℕ) (P : List ℕ → Type 0) → Consumes old new text → IsAtEnd new → IsSome old → IfSome old P → P text
+told_of None new text P read end some holds = absurd (false≢true some)
+told_of (Some all) None text P read end some holds = absurd read
+told_of (Some all) (Some rest) text P read end some holds = subst P (read ∙ ap (λ r. text ++ r) end ∙ append-nil text) holds
 
--- the transcript by the messages
-of_messages : (text : List ℕ) (found : Option (List (List ℕ))) → first_messages (lines_of text) ≡ found → (lines : List ℕ) → (messages : List (List ℕ)) → found ≡ Some messages → lines ≡ served_all new_machine messages → IsTranscript text (Some lines)
-of_messages text found is lines messages some played =
-    let e = is ∙ some in
-    (ap (λ (o : Option (List (List ℕ))). is_some o) e, played ∙ ap (λ (o : Option (List (List ℕ))). transcript_or_none o) (sym e))
+-- THE TEXT by what was read of it
+pub playable : (slice text : List ℕ) (script : Script) → slice ≡ text → length text ≤ input_limit → script_of slice ≡ Ok script → is_unbuilt script ≡ false → IsPlayable text
+playable slice text script whole short reads built =
+    record { short = short; script = script; reads = ap script_of (sym whole) ∙ reads; built = built }
 
-pub transcript_some : (text lines : List ℕ) (messages : List (List ℕ)) → Some messages ≡ first_messages (lines_of text) → lines ≡ served_all new_machine messages → IsTranscript text (Some lines)
-transcript_some text lines messages some played = of_messages text (first_messages (lines_of text)) refl lines messages (sym some) played
+pub unbuilt : (slice text : List ℕ) (script : Script) → slice ≡ text → length text ≤ input_limit → script_of slice ≡ Ok script → is_unbuilt script ≡ true → IsUnbuilt text
+unbuilt slice text script whole short reads is =
+    record { short = short; script = script; reads = ap script_of (sym whole) ∙ reads; unbuilt = is }
 
-pub transcript_none : (text : List ℕ) → None ≡ first_messages (lines_of text) → IsTranscript text None
-transcript_none text none = ap (λ (o : Option (List (List ℕ))). is_some o) (sym none)
+pub faulty : (slice text : List ℕ) (line : ℕ) (kind : LineKind) → slice ≡ text → length text ≤ input_limit → script_of slice ≡ Err (record { line = line; kind = kind }) → IsFaulty text line kind
+faulty slice text line kind whole short reads = record { short = short; reads = ap script_of (sym whole) ∙ reads }
 
--- the same by what the code holds: the slice of the text, and the slice of the lines
-pub lines_are : (s text lines l : List ℕ) (found : Option (List ℕ)) → s ≡ text → found ≡ Some lines → l ≡ lines → IsTranscript s found → (is_first_script text ≡ true) × (l ≡ first_transcript text)
-lines_are s text lines l found whole some slice h =
-    let told = subst (λ f. IsTranscript s f) some h in
-    (ap is_first_script (sym whole) ∙ told.0, slice ∙ told.1 ∙ ap first_transcript whole)
+-- a text reads one way
+same_script : {a b : Script} → ◌≡◌ {A = Result Script LineFault} (Ok a) (Ok b) → a ≡ b
+same_script {a = a} e = ap (λ (r : Result Script LineFault). elim r as (λ _. Script) [ Ok s ↦ s | Err f ↦ a ]) e
 
-pub none_is : (s text : List ℕ) (found : Option (List ℕ)) → s ≡ text → found ≡ None → IsTranscript s found → is_first_script text ≡ false
-none_is s text found whole none h = ap is_first_script (sym whole) ∙ subst (λ f. IsTranscript s f) none h
+pub not_unbuilt : {A : Type 0} (text : List ℕ) → IsUnbuilt text → IsPlayable text → A
+not_unbuilt text is playable =
+    absurd (false≢true (sym playable.built ∙ ap is_unbuilt (same_script (sym playable.reads ∙ is.reads)) ∙ is.unbuilt))
+
+pub not_faulty : {A : Type 0} (text : List ℕ) (line : ℕ) (kind : LineKind) → IsFaulty text line kind → IsPlayable text → A
+not_faulty text line kind is playable = absurd (ok_or_err (sym playable.reads ∙ is.reads))
+  where
+    ok_or_err : {a : Script} {f : LineFault} → ◌≡◌ {A = Result Script LineFault} (Ok a) (Err f) → ⊥
+    ok_or_err e = cc
+
+-- THE TRANSCRIPT of a text that is played
+pub transcript_is : (slice text : List ℕ) (script : Script) → slice ≡ text → script_of slice ≡ Ok script → is_unbuilt script ≡ false → lines_from built_types new_world script.events [] ≡ transcript text
+transcript_is slice text script whole reads built =
+    sym (ap (λ r. transcript_of built_types r []) (ap script_of (sym whole) ∙ reads) ∙ ap (λ w. lines_from built_types w script.events []) (starts_new script built))
+
+pub hides : (text : List ℕ) → IsPlayable text → HidesHandovers text
+hides text playable = transcript_left built_types text playable.script [] playable.reads

@@ -1,7 +1,3 @@
-pub mod LineLemmas
-pub mod AloneLemmas
-pub mod SightLemmas
-pub mod WholeLemmas
-pub mod FillLemmas
 pub mod PlayLemmas
+pub mod FormLemmas
 pub mod DriveLemmas

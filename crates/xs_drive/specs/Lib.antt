@@ -1,3 +1,3 @@
 pub mod Statuses
 pub mod Ends
-pub mod Store
+pub mod Play

@@ -1,37 +1,104 @@
-//! Plays a first script.
+//! Plays the events of a script.
 
-ghost use Rattle.std.specs.Prelude.{◌≡◌, ◌≤◌, IfOk, length, All};
-ghost use Rattle.machine_model.specs.Machine.{new_machine};
-ghost use Rattle.world_model.specs.FirstScript.{served_all};
-ghost use Rattle.xs_drive.specs.Ends.{IsTranscript};
+ghost use Rattle.std.specs.Prelude.{◌≡◌, List, [], map, OnOk, OnErr, IfOk};
+ghost use Rattle.std.specs.Io.KnownBytes.{Appends};
+ghost use Rattle.std.specs.List.{AllByRecursion};
+ghost use Rattle.xs_base.specs.Faults.{NeverFalls, Rose};
+ghost use Rattle.xs_model.specs.Requests.{built_types};
+ghost use Rattle.world_model.specs.Worlds.{new_world};
+ghost use Rattle.world_model.specs.Transcripts.{lines_from};
+ghost use Rattle.guest_script.specs.Views.{event_view};
+ghost use Rattle.program_io.specs.Ends.{AppendsFront};
+ghost use Rattle.world_core.specs.Stands.{IsBuilt, StandsFor};
+ghost use Rattle.xs_drive.specs.Play.{Prints, PrintsFront};
+ghost use Rattle.xs_drive.specs.declared.play.PlayFault.TheVariants.{NoMemory as no_memory, WriteFault as write_fault};
 
-use crate::first_script::messages_of;
-use crate::print::push_served;
-use crate::store::Store;
+use daemon::Daemon;
+use guest_script::{Event, Events, print_said};
+use msg_reassembly::{Inbox, Ins};
+use program_io::{write_all, write_if_many};
 use std::alloc::Global;
-use xs_base::{Bytes, Items, NoMemory};
+use world_core::World;
+use world_model::Said;
+use xs_base::{Bytes, Failed, NoMemory, Sink, Vault};
 
-/// The transcript of a script, if it is a first script. O(its length, and a search of the tree for each message).
-#[tactic(auto, using(crate::proofs::DriveLemmas::transcript_some, crate::proofs::DriveLemmas::transcript_none))]
-pub fn transcript_of(alloc: Global, text: &[u8]) -> Result<Option<Bytes>, NoMemory>
-    ensures { IfOk result (IsTranscript text.now) }
-{
-    match messages_of(alloc, text)? {
-        None => Ok(None),
-        Some(messages) => Ok(Some(served_lines(alloc, &messages)?)),
+/// Why not all lines were written.
+#[derive(Clone, Copy, Debug, PartialEq, Eq)]
+pub enum PlayFault {
+    /// The sink failed.
+    WriteFault,
+    /// No memory was found for an event or its line.
+    NoMemory,
+}
+
+impl From<NoMemory> for PlayFault {
+    ghost from_gives = { λ _ e. e ≡ no_memory };
+
+    fn from(_error: NoMemory) -> PlayFault {
+        PlayFault::NoMemory
     }
 }
 
-/// What is printed for messages that a new store serves.
-fn served_lines(alloc: Global, messages: &Items<Bytes>) -> Result<Bytes, NoMemory>
-    requires { All (λ message. 16 ≤ length message) messages.now }
-    ensures { IfOk result (λ lines. lines ≡ served_all new_machine messages.now) }
-{
-    let mut store = Store::new(alloc)?;
-    let mut lines = Bytes::new(alloc);
-    for message in messages.as_slice() {
-        let reply = store.serve(alloc, message.as_slice())?;
-        push_served(&mut lines, message.as_slice(), reply.as_slice())?;
+impl From<Failed> for PlayFault {
+    ghost from_gives = { λ _ e. e ≡ write_fault };
+
+    fn from(_error: Failed) -> PlayFault {
+        PlayFault::WriteFault
     }
-    Ok(lines)
+}
+
+/// Plays the events in a new world, and writes the line of each, through one buffer whose size does not grow with
+/// their number. Refused, a front of the lines was written: where no memory was found, the lines of all events so
+/// far, as far as the sink took them.
+pub fn play<K: Sink, V: Vault>(
+    alloc: Global,
+    events: &Events,
+    out: &mut K,
+    vault: &mut V,
+) -> Result<(), PlayFault>
+    requires { AllByRecursion IsBuilt (map event_view events.now) }
+    ensures ok { OnOk result (Appends (K.written out.old) (K.written out.new) (lines_from built_types new_world (map event_view events.now) [])) }
+    ensures front { AppendsFront (K.written out.old) (K.written out.new) (lines_from built_types new_world (map event_view events.now) []) }
+    ensures failed { result ≡ Err PlayFault.WriteFault → Rose (K.faults out.old) (K.faults out.new) }
+    ensures counts { NeverFalls (K.faults out.old) (K.faults out.new) }
+    ensures vault { vault.new ≡ vault.old }
+{
+    let mut world = new_world(alloc)?;
+    let mut lines = Bytes::new(alloc);
+    for event in events.as_slice() {
+        if print_step(&mut world, event, vault, &mut lines).is_err() {
+            let _written = write_all(out, lines.as_slice());
+            return Err(PlayFault::NoMemory);
+        }
+        write_if_many(&mut lines, out)?;
+    }
+    write_all(out, lines.as_slice())?;
+    Ok(())
+}
+
+/// The world of a new store, where domain 0 alone is connected.
+fn new_world(alloc: Global) -> Result<World, NoMemory>
+    ensures { IfOk result (λ world. StandsFor world new_world) }
+{
+    let mut ins = Ins::new(alloc);
+    ins.add(1, Inbox::new(alloc)?)?;
+    World::start(alloc, Daemon::new(alloc)?, ins)
+}
+
+/// Plays one event, and appends its line. Refused, a front of the line was appended.
+fn print_step<V: Vault>(
+    world: &mut World,
+    event: &Event,
+    vault: &mut V,
+    lines: &mut Bytes,
+) -> Result<(), NoMemory>
+    requires { IsBuilt (event_view event.now) }
+    ensures ok { OnOk result (Prints world.old (event_view event.now) lines.old world.new lines.new) }
+    ensures err { OnErr result (PrintsFront world.old (event_view event.now) lines.old lines.new) }
+    ensures vault { vault.new ≡ vault.old }
+{
+    match world.step(event, vault) {
+        Said::NoMemory => Err(NoMemory),
+        said => print_said(lines, event, &said, world.taken()),
+    }
 }

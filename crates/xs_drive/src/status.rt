@@ -1,5 +1,7 @@
 //! How a run ends.
 
+use world_model::LineKind;
+
 /// The end of a call of `drive`. Its number is the program's exit status.
 #[derive(Clone, Copy, Debug, PartialEq, Eq)]
 pub enum Status {
@@ -7,6 +9,8 @@ pub enum Status {
     Done,
     /// The words are none of the forms.
     Usage,
+    /// The first line with a fault, counted from 1, and its first fault.
+    Script { line: usize, kind: LineKind },
     /// More than 16777216 bytes came.
     TooLong,
     /// The source failed.
@@ -30,6 +34,7 @@ impl Status {
         match self {
             Status::Done => 0,
             Status::Usage => 2,
+            Status::Script { .. } => 3,
             Status::TooLong => 4,
             Status::ReadFault => 5,
             Status::WriteFault => 6,

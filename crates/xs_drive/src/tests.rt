@@ -1,6 +1,6 @@
 //! Worked scripts through `drive`, and ends that fail.
 
-use crate::{Status, drive};
+use crate::{LineKind, Status, drive};
 use std::alloc::Global;
 use std::test::Fail;
 use xs_base::{Bytes, Calls, MemSink, MemSource, NoMemory, SureSink, SureSource, SureVault};
@@ -40,21 +40,41 @@ fn plays_worked_scripts(rt: HostRuntime) -> Result<(), Fail> {
              take 0 10000000010000000000000007000000454e4f454e5400\n",
         ),
         (
-            "send 0 0b0000000200000000000000060000002f6100000100\nserve 0\n\
-             send 0 020000000300000000000000030000002f6100\nserve 0",
+            "# a header in two pieces\n\nsend 0 020000000100000000000000030000002f6100\n\
+             put 0 9\nintake 0 16\ndo 0\nput 0 64\nserve 0",
             Status::Done,
-            "send 0 22\nput 0 22\nintake 0 22\ndo 0 done\nout 0 19\n\
-             take 0 0b0000000200000000000000030000004f4b00\n\
-             send 0 19\nput 0 19\nintake 0 19\ndo 0 done\nout 0 19\n\
-             take 0 02000000030000000000000003000000000100\n",
+            "send 0 19\nput 0 9\nintake 0 9\ndo 0 part\nput 0 10\nput 0 0\nintake 0 10\n\
+             do 0 done\nout 0 23\ntake 0 10000000010000000000000007000000454e4f454e5400\n",
         ),
-        ("serve 0\n", Status::Unbuilt, ""),
-        ("send 0 02\nserve 0\n", Status::Unbuilt, ""),
+        (
+            "send 0 02000000010000000000000001100000\nserve 0\npage 0\nput 1 1",
+            Status::Done,
+            "send 0 16\nput 0 16\nintake 0 16\ndo 0 dropped length 4097\nout 0 gone\n\
+             take 0 -\npage 0 16 16 0 0 3\nput 1 gone\n",
+        ),
+        ("handover\n", Status::Unbuilt, ""),
+        ("domain 1 at 0\n", Status::Unbuilt, ""),
     ];
     for (script, status, transcript) in cases {
         let (got, written) = played(rt.alloc(), script.as_bytes(), false, false)?;
         assert_eq!(rt; got, status, "{script}");
         assert_eq!(rt; written.as_slice(), transcript.as_bytes(), "{script}");
+    }
+    Ok(())
+}
+
+#[test]
+fn names_the_first_faulty_line(rt: HostRuntime) -> Result<(), Fail> {
+    let cases = [
+        ("put 0 0", 1, LineKind::Number),
+        ("# c\nfrob 1", 2, LineKind::Verb),
+        ("do 0\ndomain 1 at 0", 2, LineKind::Place),
+        ("handover\nsend 0 0", 2, LineKind::Hex),
+    ];
+    for (script, line, kind) in cases {
+        let (got, written) = played(rt.alloc(), script.as_bytes(), false, false)?;
+        assert_eq!(rt; got, Status::Script { line, kind }, "{script}");
+        assert!(rt; written.is_empty());
     }
     Ok(())
 }

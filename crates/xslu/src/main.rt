@@ -11,8 +11,7 @@ use xs_drive::{Status, drive};
 fn main(rt: HostRuntime) -> ExitCode {
     let status = run(&rt);
     if status != Status::Done {
-        let reason = reason(status);
-        let _ = eprintln!(rt; "xslu: {reason}");
+        say(&rt, status);
     }
     ExitCode::from(status.number())
 }
@@ -36,11 +35,22 @@ fn words<R: Env + AllocGlobal>(rt: &R) -> io::Result<Vec<String>> {
     Ok(words)
 }
 
+/// Says on standard error why a run did not end with Done.
+fn say<R: Eprint>(rt: &R, status: Status) {
+    if let Status::Script { line, kind } = status {
+        let _ = eprintln!(rt; "xslu: line {line}: {kind}");
+    } else {
+        let reason = reason(status);
+        let _ = eprintln!(rt; "xslu: {reason}");
+    }
+}
+
 /// What is said of a run that did not end with Done.
 fn reason(status: Status) -> &'static str {
     match status {
         Status::Done => "done",
         Status::Usage => "usage: xslu run < SCRIPT",
+        Status::Script { .. } => "the script has a faulty line",
         Status::TooLong => "the script has more than 16777216 bytes",
         Status::ReadFault => "standard input failed",
         Status::WriteFault => "standard output failed",
