@@ -17,9 +17,10 @@ fn byte_rank(byte: u8) -> u16
 fn compare(a: &[u8], b: &[u8]) -> Ordering
     ensures { result ≡ text_cmp a.now b.now }
 {
-    for (x, y) in a.iter().zip(b) {
-        if x != y {
-            return byte_rank(*x).cmp(&byte_rank(*y));
+    let shared = a.len().min(b.len());
+    for at in 0..shared {
+        if a[at] != b[at] {
+            return byte_rank(a[at]).cmp(&byte_rank(b[at]));
         }
     }
     a.len().cmp(&b.len())

@@ -1,7 +1,7 @@
-use Rattle.std.proofs.Common.{◌≡◌, length, drop}
+use Rattle.std.proofs.Common.{◌≡◌, drop}
 use Rattle.xs_model.specs.Laws.{text_cmp}
 use Rattle.xs_path.proofs.order.compare.Given as goal
 
 -- what is left of the texts stands as the texts do
-abbrev pub invariant-loop-x : goal.invariant-loop-x
-invariant-loop-x l = text_cmp (drop (length l.yielded) l.a) (drop (length l.yielded) l.b) ≡ text_cmp l.a l.b
+abbrev pub invariant-loop-at : goal.invariant-loop-at
+invariant-loop-at l = text_cmp (drop l.at l.a) (drop l.at l.b) ≡ text_cmp l.a l.b
