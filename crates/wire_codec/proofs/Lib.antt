@@ -1,1 +1,4 @@
 pub mod StringLemmas
+pub mod EntryLemmas
+pub mod AskedLemmas
+mod PutLemmas

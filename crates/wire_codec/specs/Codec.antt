@@ -1,8 +1,9 @@
 -- What the readers of messages answer, beside the definitions of `xs_model`.
-use Rattle.std.specs.Prelude.{◌≡◌, ℕ, ◌^◌, ◌<◌, List, Option, Some, None, Result, Ok, Err, ⊤}
+use Rattle.std.specs.Prelude.{◌≡◌, ℕ, ◌^◌, ◌<◌, false, List, Option, Some, None, Result, Ok, Err, ⊤}
 use Rattle.std.specs.Borrow.{Bor}
 use Rattle.wire_codec.specs.declared.request.TreeOp.{TreeOp}
 use Rattle.wire_codec.specs.declared.request.TreeOp.TheVariants as op
+use Rattle.wire_codec.specs.declared.request.TreeCommand.{TreeCommand}
 use Rattle.wire_codec.specs.declared.request.Request.{Request}
 use Rattle.wire_codec.specs.declared.request.Request.TheVariants.{Command}
 use Rattle.wire_codec.specs.declared.request.RequestErr.{RequestErr}
@@ -14,6 +15,7 @@ use Rattle.xs_model.specs.declared.path.PathFault.{PathFault}
 use Rattle.xs_model.specs.Paths.{Path}
 use Rattle.xs_model.specs.Requests.{ok_value, Operation}
 use Rattle.xs_model.specs.Requests as model
+use Rattle.xs_model.specs.Commands.{is_out_of_form}
 
 -- the numbers of a header fit their fields
 pub record Fits (head : Header) : Type 0 where
@@ -28,11 +30,23 @@ cut_view cut = (cut.0.now, cut.1.now)
 
 -- a request as the definitions have it
 abbrev pub operation_of : TreeOp → Operation
+operation_of op.Directory = model.Directory
 operation_of op.Read = model.Read
+operation_of op.GetPerms = model.GetPerms
 operation_of (op.Write value) = model.Write value
+operation_of op.Mkdir = model.Mkdir
+operation_of op.Rm = model.Rm
+operation_of (op.SetPerms perms) = model.SetPerms perms
 
 abbrev pub request_view : Request → model.Request
 request_view (Command command) = model.Command (operation_of command.op) command.path
+
+-- the command is not RM of `/`, nor SET_PERMS to no entries
+abbrev pub IsInForm : TreeCommand → Type 0
+IsInForm command = is_out_of_form (operation_of command.op) command.path ≡ false
+
+abbrev pub AsksInForm : Request → Type 0
+AsksInForm (Command command) = IsInForm command
 
 -- the path of bytes, and Einval exactly where they are none
 abbrev pub IsPathOf : Result Path RequestErr → Result Path PathFault → Type 0
@@ -41,12 +55,12 @@ IsPathOf (Err Enosys) defined = ⊥
 IsPathOf (Err Einval) defined = ok_value defined ≡ None
 IsPathOf (Err NoMemory) defined = ⊤
 
--- the same of an optional path
-abbrev pub IsOnePath : Result Path RequestErr → Option Path → Type 0
-IsOnePath (Ok path) defined = defined ≡ Some path
-IsOnePath (Err Enosys) defined = ⊥
-IsOnePath (Err Einval) defined = defined ≡ None
-IsOnePath (Err NoMemory) defined = ⊤
+-- a part of a payload that is defined, and Einval exactly where there is none
+abbrev pub IsPart : {A : Type 0} → Result A RequestErr → Option A → Type 0
+IsPart (Ok part) defined = defined ≡ Some part
+IsPart (Err Enosys) defined = ⊥
+IsPart (Err Einval) defined = defined ≡ None
+IsPart (Err NoMemory) defined = ⊤
 
 -- the request that is defined, or the refusal that is; want of memory is free
 abbrev pub IsRequest : Result Request RequestErr → Result model.Request WireErr → Type 0

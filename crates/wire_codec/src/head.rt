@@ -1,6 +1,6 @@
 //! Headers, and whole messages.
 
-ghost use Rattle.std.specs.Prelude.{◌≡◌, ◌≤◌, ◌-◌, ◌++◌, ℕ, length, drop, take, IfOk};
+ghost use Rattle.std.specs.Prelude.{◌≡◌, ◌≤◌, ◌-◌, ◌+◌, ◌++◌, ℕ, length, drop, take, IfOk};
 ghost use Rattle.xs_model.specs.Messages.{header_of, header_bytes, word_at};
 
 use byteorder::{ByteOrder, LittleEndian};
@@ -53,4 +53,25 @@ pub fn write_message(alloc: Global, head: Header, payload: &[u8]) -> Result<Byte
     bytes.extend_from_slice(&head_bytes(&head))?;
     bytes.extend_from_slice(payload)?;
     Ok(Bytes::from_vec(bytes))
+}
+
+/// Writes a message to the first bytes of `into`, and says how many these are. It takes no memory. O(length of the
+/// payload).
+pub fn put_message(head: Header, payload: &[u8], into: &mut [u8; 4112]) -> usize
+    requires len { head.len ≡ length payload.now }
+    requires fits { length payload.now ≤ PAYLOAD_MAX }
+    ensures count { result ≡ 16 + length payload.now }
+    ensures bytes { take result into.new ≡ header_bytes head ++ payload.now }
+{
+    overwrite(into, 0, &head_bytes(&head));
+    overwrite(into, HEADER_LEN, payload);
+    HEADER_LEN + payload.len()
+}
+
+/// Writes bytes over those from a place on.
+fn overwrite(into: &mut [u8; 4112], at: usize, bytes: &[u8])
+    requires { at + length bytes.now ≤ 4112 }
+    ensures { into.new ≡ take at into.old ++ (bytes.now ++ drop (at + length bytes.now) into.old) }
+{
+    into[at..at + bytes.len()].copy_from_slice(bytes);
 }

@@ -11,6 +11,6 @@ mod request;
 #[cfg(test)]
 mod tests;
 
-pub use head::{read_header, write_message};
+pub use head::{put_message, read_header, write_message};
 pub use request::{Request, RequestErr, TreeCommand, TreeOp, read_request};
 pub use xs_model::message::{Header, WireErr, kind};

@@ -1,13 +1,14 @@
-//! The strings and paths of a payload.
+//! The strings, paths and permission entries of a payload.
 
-ghost use Rattle.std.specs.Prelude.{◌≡◌, ◌≤◌, ◌+◌, List, ℕ, length, drop, take, option_map};
-ghost use Rattle.xs_model.specs.Requests.{cut_string, one_string, one_path, is_empty};
+ghost use Rattle.std.specs.Prelude.{◌≡◌, ◌≤◌, ◌+◌, List, [], ℕ, length, drop, take, option_map};
+ghost use Rattle.xs_model.specs.Requests.{cut_string, one_string, one_path, perms_of};
 ghost use Rattle.xs_model.specs.Paths.{path_of};
-ghost use Rattle.wire_codec.specs.Codec.{cut_view, IsPathOf, IsOnePath};
+ghost use Rattle.wire_codec.specs.Codec.{cut_view, IsPathOf, IsPart};
 
 use crate::request::RequestErr;
 use std::alloc::Global;
 use xs_path::{Path, PathFault};
+use xs_perms::{Perms, read_perm};
 
 /// The bytes before the first NUL, and those after it. O(the former).
 pub fn cut_string(payload: &[u8]) -> Option<(&[u8], &[u8])>
@@ -52,10 +53,31 @@ pub fn path(alloc: Global, bytes: &[u8], domid: u16) -> Result<Path, RequestErr>
 /// The path of a payload that is exactly one string.
 pub fn one_path(alloc: Global, payload: &[u8], domid: u16) -> Result<Path, RequestErr>
     requires { domid ≤ 32751 }
-    ensures { IsOnePath result (one_path payload.now domid) }
+    ensures { IsPart result (one_path payload.now domid) }
 {
     let Some(bytes) = one_string(payload) else {
         return Err(RequestErr::Einval);
     };
     path(alloc, bytes, domid)
+}
+
+/// The entries of which each is a string, one or more, to the end of the bytes. O(bytes).
+pub fn perms(alloc: Global, bytes: &[u8]) -> Result<Perms, RequestErr>
+    ensures { IsPart result (perms_of [] bytes.now) }
+{
+    let mut perms = Perms::new(alloc);
+    let mut rest = bytes;
+    'entries: loop {
+        let Some((string, behind)) = cut_string(rest) else {
+            return Err(RequestErr::Einval);
+        };
+        let Ok(perm) = read_perm(string) else {
+            return Err(RequestErr::Einval);
+        };
+        perms.push(perm)?;
+        if behind.is_empty() {
+            return Ok(perms);
+        }
+        rest = behind;
+    }
 }

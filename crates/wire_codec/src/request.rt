@@ -1,8 +1,8 @@
 //! What a message asks for.
 
-ghost use Rattle.std.specs.Prelude.{◌≡◌, ◌≤◌};
-ghost use Rattle.xs_model.specs.Requests.{request_of, built_types, path_request, write_request, Read as read_operation, or_einval};
-ghost use Rattle.wire_codec.specs.Codec.{IsRequest};
+ghost use Rattle.std.specs.Prelude.{◌≡◌, ◌≤◌, IfOk};
+ghost use Rattle.xs_model.specs.Requests.{request_of, built_types, path_request, write_request, rm_request, set_perms_request, or_einval};
+ghost use Rattle.wire_codec.specs.Codec.{IsRequest, AsksInForm, operation_of};
 
 use crate::payload;
 use std::alloc::{AllocError, Global};
@@ -10,14 +10,25 @@ use thiserror::Error;
 use xs_base::Bytes;
 use xs_model::message::{Header, kind};
 use xs_path::Path;
+use xs_perms::Perms;
 
-/// What a tree command does at its path. The commands that are built so far.
+/// What a tree command does at its path (xenstore.txt, "Database read, write and permissions operations").
 #[derive(Debug, Drop)]
 pub enum TreeOp {
+    /// Answers the names of the children.
+    Directory,
     /// Answers the value.
     Read,
+    /// Answers the permission entries.
+    GetPerms,
     /// Sets the value, and creates what is missing.
     Write(Bytes),
+    /// Creates what is missing, with an empty value.
+    Mkdir,
+    /// Removes the node and all nodes below it.
+    Rm,
+    /// Sets the permission entries.
+    SetPerms(Perms),
 }
 
 /// A command on the tree.
@@ -58,7 +69,8 @@ impl From<AllocError> for RequestErr {
     }
 }
 
-/// What a domain's message asks for, by the type in its header and its payload. O(length of the payload).
+/// What a domain's message asks for, by the type in its header and its payload: the payloads of xenstore.txt.
+/// O(length of the payload).
 pub fn read_request(
     alloc: Global,
     head: Header,
@@ -66,23 +78,42 @@ pub fn read_request(
     domid: u16,
 ) -> Result<Request, RequestErr>
     requires { domid ≤ 32751 }
-    ensures { IsRequest result (request_of built_types head.kind payload.now domid) }
+    ensures asked { IsRequest result (request_of built_types head.kind payload.now domid) }
+    // It is not RM of `/`, nor SET_PERMS without entries.
+    ensures in_form { IfOk result AsksInForm }
 {
     match head.kind {
-        kind::READ => read(alloc, payload, domid),
+        kind::DIRECTORY => at_path(alloc, TreeOp::Directory, payload, domid),
+        kind::READ => at_path(alloc, TreeOp::Read, payload, domid),
+        kind::GET_PERMS => at_path(alloc, TreeOp::GetPerms, payload, domid),
         kind::WRITE => write(alloc, payload, domid),
+        kind::MKDIR => at_path(alloc, TreeOp::Mkdir, payload, domid),
+        kind::RM => rm(alloc, payload, domid),
+        kind::SET_PERMS => set_perms(alloc, payload, domid),
         _ => Err(RequestErr::Enosys),
     }
 }
 
-/// READ: exactly one string, a path.
-fn read(alloc: Global, payload: &[u8], domid: u16) -> Result<Request, RequestErr>
+/// DIRECTORY, READ, GET_PERMS or MKDIR: exactly one string, a path.
+fn at_path(alloc: Global, op: TreeOp, payload: &[u8], domid: u16) -> Result<Request, RequestErr>
     requires { domid ≤ 32751 }
-    ensures { IsRequest result (or_einval (path_request read_operation payload.now domid)) }
+    ensures { IsRequest result (or_einval (path_request (operation_of op) payload.now domid)) }
 {
     let path = payload::one_path(alloc, payload, domid)?;
+    Ok(Request::Command(TreeCommand { op, path }))
+}
+
+/// RM: exactly one string, a path other than `/`.
+fn rm(alloc: Global, payload: &[u8], domid: u16) -> Result<Request, RequestErr>
+    requires { domid ≤ 32751 }
+    ensures { IsRequest result (or_einval (rm_request payload.now domid)) }
+{
+    let path = payload::one_path(alloc, payload, domid)?;
+    if path.is_root() {
+        return Err(RequestErr::Einval);
+    }
     Ok(Request::Command(TreeCommand {
-        op: TreeOp::Read,
+        op: TreeOp::Rm,
         path,
     }))
 }
@@ -99,6 +130,22 @@ fn write(alloc: Global, payload: &[u8], domid: u16) -> Result<Request, RequestEr
     let value = Bytes::copy(alloc, value)?;
     Ok(Request::Command(TreeCommand {
         op: TreeOp::Write(value),
+        path,
+    }))
+}
+
+/// SET_PERMS: one string, a path, and one entry or more after it.
+fn set_perms(alloc: Global, payload: &[u8], domid: u16) -> Result<Request, RequestErr>
+    requires { domid ≤ 32751 }
+    ensures { IsRequest result (or_einval (set_perms_request payload.now domid)) }
+{
+    let Some((string, entries)) = payload::cut_string(payload) else {
+        return Err(RequestErr::Einval);
+    };
+    let path = payload::path(alloc, string, domid)?;
+    let perms = payload::perms(alloc, entries)?;
+    Ok(Request::Command(TreeCommand {
+        op: TreeOp::SetPerms(perms),
         path,
     }))
 }

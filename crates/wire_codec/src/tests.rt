@@ -1,7 +1,8 @@
-//! Worked messages: READ of `/a` and its refusal, byte by byte.
+//! Worked messages, byte by byte: one of each type that is served, and their refusals.
 
 use crate::{Header, Request, RequestErr, TreeOp, kind, read_header, read_request, write_message};
 use std::test::Fail;
+use xs_perms::{Letter, Perm};
 
 const READ_A: [u8; 19] = [
     2, 0, 0, 0, 1, 0, 0, 0, 0, 0, 0, 0, 3, 0, 0, 0, b'/', b'a', 0,
@@ -10,25 +11,35 @@ const READ_A: [u8; 19] = [
 #[test]
 fn reads_and_writes_one_message(rt: HostRuntime) -> Result<(), Fail> {
     let head = read_header(READ_A.first_chunk::<16>().ok_or("short")?);
-    let want = Header {
-        kind: kind::READ,
-        req_id: 1,
-        tx_id: 0,
-        len: 3,
-    };
+    let want = head_of(kind::READ);
     assert_eq!(rt; head, want);
     let bytes = write_message(rt.alloc(), want, b"/a\0")?;
     assert_eq!(rt; bytes.as_slice(), READ_A.as_slice());
     Ok(())
 }
 
+/// The head of a message of this type.
+fn head_of(kind: u32) -> Header {
+    Header {
+        kind,
+        req_id: 1,
+        tx_id: 0,
+        len: 3,
+    }
+}
+
 /// A request or its refusal in a word or two.
 fn told(got: &Result<Request, RequestErr>) -> &'static str {
     match got {
         Ok(Request::Command(command)) => match &command.op {
+            TreeOp::Directory => "directory",
             TreeOp::Read => "read",
-            TreeOp::Write(value) if value.len() == 2 => "write 2",
+            TreeOp::GetPerms => "get perms",
+            TreeOp::Write(value) if value.as_slice() == b"v\0".as_slice() => "write v",
             TreeOp::Write(_) => "write",
+            TreeOp::Mkdir => "mkdir",
+            TreeOp::Rm => "rm",
+            TreeOp::SetPerms(_) => "set perms",
         },
         Err(RequestErr::Einval) => "einval",
         Err(RequestErr::Enosys) => "enosys",
@@ -37,24 +48,80 @@ fn told(got: &Result<Request, RequestErr>) -> &'static str {
 }
 
 #[test]
-fn reads_the_requests_that_are_built(rt: HostRuntime) -> Result<(), Fail> {
+fn reads_each_type(rt: HostRuntime) -> Result<(), Fail> {
     let cases = [
-        (kind::READ, b"/a\0".as_slice(), "read"),
-        (kind::WRITE, b"/a\0v\0", "write 2"),
-        (kind::READ, b"/a", "einval"),
-        (kind::READ, b"/a\0b\0", "einval"),
-        (kind::WRITE, b"//a\0v", "einval"),
-        (20, b"/a\0", "enosys"),
+        (1, b"/\0".as_slice(), "directory", b"/".as_slice()),
+        (2, b"/a\0", "read", b"/a"),
+        (3, b"/a\0", "get perms", b"/a"),
+        (11, b"/a\0v\0", "write v", b"/a"),
+        (12, b"a\0", "mkdir", b"/local/domain/7/a"),
+        (13, b"/a\0", "rm", b"/a"),
+        (14, b"/a\0n0\0", "set perms", b"/a"),
     ];
-    for (kind, payload, want) in cases {
-        let head = Header {
-            kind,
-            req_id: 1,
-            tx_id: 0,
-            len: 0,
-        };
-        let got = read_request(rt.alloc(), head, payload, 0);
-        assert_eq!(rt; told(&got), want, "type {kind}");
+    for (kind, payload, want, path) in cases {
+        let got = read_request(rt.alloc(), head_of(kind), payload, 7);
+        assert_eq!(rt; told(&got), want);
+        if let Ok(Request::Command(command)) = &got {
+            assert_eq!(rt; command.path.bytes(), path);
+        }
     }
     Ok(())
+}
+
+#[test]
+fn refuses_what_is_out_of_form(rt: HostRuntime) -> Result<(), Fail> {
+    let cases = [
+        (1, b"/a".as_slice()),
+        (1, b"/a\0\0"),
+        (2, b"/a"),
+        (2, b"/a\0b\0"),
+        (3, b""),
+        (3, b"/a\0n0\0"),
+        (11, b"/a"),
+        (11, b"//a\0v"),
+        (12, b"\0"),
+        (12, b"/a\0v"),
+        (13, b"/a/\0"),
+        (13, b"/\0"),
+        (14, b"/a\0"),
+        (14, b"/a\0\0"),
+        (14, b"/a\0n0"),
+        (14, b"/a\0x0\0"),
+        (14, b"/a\0n\0"),
+        (14, b"/a\0n65536\0"),
+        (14, b"/a\0n0\0r\0"),
+        (14, b"/a\0n0\0r1"),
+        (14, b"/a\0n0\0\0"),
+    ];
+    for (kind, payload) in cases {
+        let got = read_request(rt.alloc(), head_of(kind), payload, 7);
+        assert_eq!(rt; told(&got), "einval", "type {kind}");
+    }
+    for kind in [0, 4, 6, 15, 18, 22] {
+        let got = read_request(rt.alloc(), head_of(kind), b"/a\0", 7);
+        assert_eq!(rt; told(&got), "enosys", "type {kind}");
+    }
+    Ok(())
+}
+
+#[test]
+fn reads_entries_in_order(rt: HostRuntime) -> Result<(), Fail> {
+    let payload = b"/a\0n0\0r32752\0b65535\0";
+    let got = read_request(rt.alloc(), head_of(kind::SET_PERMS), payload, 7);
+    let want = [(Letter::N, 0), (Letter::R, 32752), (Letter::B, 65535)];
+    if let Ok(Request::Command(command)) = &got
+        && let TreeOp::SetPerms(perms) = &command.op
+    {
+        assert_eq!(rt; perms.len(), 3);
+        for ((letter, domid), perm) in want.iter().zip(perms.as_slice()) {
+            let entry = Perm {
+                letter: *letter,
+                stale: false,
+                domid: *domid,
+            };
+            assert_eq!(rt; *perm, entry);
+        }
+        return Ok(());
+    }
+    Err("no entries")?
 }
