@@ -1,13 +1,13 @@
 -- Entries in chunks: where a path belongs, and what an edit of its chunk leaves.
-use Rattle.std.proofs.Common.{◌≡◌, ℕ, ◌+◌, ◌<◌, ◌≤◌, true, false, List, [], ◌∷◌, ◌++◌, length, take, drop, get_or, set, refl, sym, ap, subst, ◌∙◌, arith, add-one, append_assoc}
+use Rattle.std.proofs.Common.{◌≡◌, ℕ, ◌+◌, ◌<◌, true, false, List, [], ◌∷◌, ◌++◌, length, take, drop, get_or, set, refl, sym, ap, subst, ◌∙◌, arith, add-one}
 use Rattle.std.specs.FinMap.{find, put, is_sorted}
 use Rattle.std.specs.FinMap.Entries.{below_all}
-use Rattle.std.specs.List.{All, insert}
-use Rattle.std.proofs.lemmas.List.{take-append-drop, set_split, drop_more, get_or_read, take_at, drop_at, drop-drop, length-take-le, length-drop, length-take, length-append, take_more_set, drop-set-lt}
+use Rattle.std.specs.List.{All}
+use Rattle.std.proofs.lemmas.List.{take-append-drop, set_split, drop_more, get_or_read}
 use Rattle.std.proofs.lemmas.List.Concat.{flat_map-append}
 use Rattle.xs_model.specs.Paths.{Path, path_cmp}
 use Rattle.xs_model.specs.Trees.{Tree, Node}
-use Rattle.node_tree.specs.Chunks.{half, full, joined, begins_behind, halved, IsRangeFor}
+use Rattle.node_tree.specs.Chunks.{joined, begins_behind, IsRangeFor}
 use Rattle.node_tree.proofs.Rising.{before, behind, both, pair, find-append, find-front, put-append, put-front, sorted-front, sorted-back, before_entry, before-later, behind-sooner}
 use Rattle.node_tree.proofs.Shape.{path_cmp_total}
 

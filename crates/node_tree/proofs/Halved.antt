@@ -1,9 +1,9 @@
 -- A chunk that is split in two: the entries stay, and half a chunk is free in each.
-use Rattle.std.proofs.Common.{◌≡◌, ℕ, ◌+◌, ◌*◌, ◌-◌, ◌/◌, ◌<◌, ◌≤◌, min, max, Bool, true, false, nat_le, List, [], ◌∷◌, ◌++◌, length, take, drop, get_or, set, refl, sym, ap, subst, ◌∙◌, arith, add-one, append_assoc, ltb, inl, inr, ◌⊎◌}
+use Rattle.std.proofs.Common.{◌≡◌, ℕ, ◌+◌, ◌*◌, ◌-◌, ◌/◌, ◌<◌, ◌≤◌, min, max, Bool, true, false, nat_le, List, [], ◌∷◌, ◌++◌, length, take, drop, get_or, set, refl, sym, ap, subst, ◌∙◌, arith, append_assoc, ltb, inl, inr, ◌⊎◌}
 use borrow.Author.Tests.{ltb-true, ltb-false}
 use Rattle.std.specs.FinMap.{put}
-use Rattle.std.specs.List.{All, HoldsAt, insert, sum_by}
-use Rattle.std.proofs.lemmas.List.{take-append-drop, drop_more, take_at, drop_at, drop-drop, length-take-le, length-drop, length-take, length-append, take_more_set, drop-set-lt, get_or_at, get_or-append-add}
+use Rattle.std.specs.List.{All, HoldsAt, insert}
+use Rattle.std.proofs.lemmas.List.{take-append-drop, take_at, drop_at, drop-drop, length-take-le, length-drop, length-take, length-append, take_more_set, drop-set-lt, get_or_at, get_or-append-add}
 use Rattle.std.proofs.lemmas.Bool.Decides.{nat_tests}
 use Rattle.std.proofs.lemmas.List.Elements.{All-append, All-cons, All-take, All-drop}
 use Rattle.std.proofs.lemmas.List.Sums.{sum_by-append, sum_by-cons, sum_by-set, sum_by-le, sum_by-take-drop, sum_by-drop_more}

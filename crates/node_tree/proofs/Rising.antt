@@ -25,12 +25,12 @@ pub pair : (s t : Bool) → s ≡ true → t ≡ true → s && t ≡ true
 pair true t p q = q
 pair false t p q = cc
 
-is_greater : (o : Ordering) → is_gt o ≡ true → o ≡ Greater
+pub is_greater : (o : Ordering) → is_gt o ≡ true → o ≡ Greater
 is_greater Less h = cc
 is_greater Equal h = cc
 is_greater Greater h = refl
 
-is_less : (o : Ordering) → is_lt o ≡ true → o ≡ Less
+pub is_less : (o : Ordering) → is_lt o ≡ true → o ≡ Less
 is_less Less h = refl
 is_less Equal h = cc
 is_less Greater h = cc

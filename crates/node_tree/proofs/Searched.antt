@@ -12,7 +12,7 @@ use Rattle.std.proofs.lemmas.List.Sorted.{searchable_from_sorted}
 use Rattle.node_tree.specs.Places.{IsAt, IsGapFor}
 
 -- a test at each place is a test of the list
-all_from_places : {A : Type 0} (test : A → Bool) (xs : List A) → ((k : ℕ) (d : A) → k < length xs → test (get_or xs k d) ≡ true) → list_all test xs ≡ true
+pub all_from_places : {A : Type 0} (test : A → Bool) (xs : List A) → ((k : ℕ) (d : A) → k < length xs → test (get_or xs k d) ≡ true) → list_all test xs ≡ true
 all_from_places test [] h = refl
 all_from_places test (x ∷ xs) h =
     both (test x) (list_all test xs) (h 0 x (omega arith)) (all_from_places test xs (λ k d lt. h (suc k) d (omega arith)))

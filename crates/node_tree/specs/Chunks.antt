@@ -1,9 +1,9 @@
 -- Entries in chunks: a list of lists, each of which has entries, joined in order. This project's own.
-use Rattle.std.specs.Prelude.{◌≡◌, ℕ, ◌+◌, ◌-◌, ◌<◌, ◌≤◌, min, max, Bool, true, false, List, [], ◌∷◌, ◌++◌, length, take, drop, slice_index_or}
+use Rattle.std.specs.Prelude.{◌≡◌, ℕ, ◌+◌, ◌-◌, ◌<◌, ◌≤◌, min, Bool, true, false, List, [], ◌∷◌, ◌++◌, length, take, drop, slice_index_or}
 use Rattle.std.specs.Ordering.{is_lt, is_gt}
 use Rattle.std.specs.List.{All, list_all, flat_map, sum_by}
 use Rattle.xs_model.specs.Paths.{Path, path_cmp}
-use Rattle.xs_model.specs.Trees.{Tree, IsTree}
+use Rattle.xs_model.specs.Trees.{Tree}
 
 -- so many entries fill a chunk
 abbrev pub full : ℕ

@@ -1,13 +1,15 @@
 //! Chunks of a tree.
 
-ghost use Rattle.std.specs.Prelude.{◌≡◌, ◌<◌, ◌≤◌, [], true, nat_le, length, take, drop, IfOk};
+ghost use Rattle.std.specs.Prelude.{◌≡◌, ◌<◌, ◌≤◌, ◌==◌, [], true, nat_le, length, take, drop, None, IfOk};
 ghost use Rattle.std.specs.FinMap.{put, is_sorted};
+ghost use Rattle.std.specs.List.{find};
 ghost use Rattle.std.specs.Option.{option_copied};
 ghost use Rattle.xs_model.specs.Paths.{path_cmp};
-ghost use Rattle.xs_model.specs.Trees.{node_at};
+ghost use Rattle.xs_model.specs.Trees.{node_at, edited_at};
 ghost use Rattle.node_tree.specs.Chunks.{full, half, begins_behind};
+ghost use Rattle.node_tree.specs.Marks.{paths, is_past, begins_past};
 
-use crate::{Node, moves, search};
+use crate::{Node, copies, moves, names, search};
 use std::alloc::Global;
 use std::marker::Model;
 use xs_base::NoMemory;
@@ -52,12 +54,40 @@ impl Chunk {
         FULL <= self.entries.len()
     }
 
+    pub fn is_empty(&self) -> bool
+        ensures { result ≡ (length self.now == 0) }
+    {
+        self.entries.is_empty()
+    }
+
     /// Whether the first entry stands behind a path.
     pub fn begins_behind(&self, path: &Path) -> bool
         requires { 0 < length self.now }
         ensures { result ≡ begins_behind path.now self.now }
     {
         path.lt(&self.entries[0].0)
+    }
+
+    /// Whether the first entry stands behind a path, and behind all that is at and below its child `leaf` if that is
+    /// not empty.
+    pub fn begins_past(&self, path: &Path, leaf: &[u8]) -> bool
+        requires { 0 < length self.now }
+        ensures { result ≡ begins_past path.now leaf.now self.now }
+    {
+        names::is_past(&self.entries[0].0, path, leaf)
+    }
+
+    /// The first path that stands so.
+    pub fn first_past(&self, path: &Path, leaf: &[u8]) -> Option<&Path>
+        requires { is_sorted path_cmp self.now ≡ true }
+        ensures { option_copied result ≡ find (is_past path.now leaf.now) (paths self.now) }
+    {
+        let place = search::place_past(&self.entries, path, leaf);
+        if place < self.entries.len() {
+            Some(&self.entries[place].0)
+        } else {
+            None
+        }
     }
 
     /// The node at a path, if there is one.
@@ -80,6 +110,25 @@ impl Chunk {
         match search::place_of(&self.entries, &path) {
             Ok(place) => self.entries[place].1 = node,
             Err(place) => self.entries.insert(place, (path, node)).unwrap(),
+        }
+    }
+
+    /// A second chunk like this one. Costs O(its bytes).
+    pub fn copy(&self) -> Result<Chunk, NoMemory>
+        ensures { IfOk result (λ chunk. chunk ≡ self.now) }
+    {
+        let alloc = *self.entries.allocator();
+        let entries = copies::entries(alloc, &self.entries, FULL)?;
+        Ok(Chunk { entries })
+    }
+
+    /// Takes the node of a path away, if there is one. Takes no memory.
+    pub fn remove(&mut self, path: &Path)
+        requires { is_sorted path_cmp self.old ≡ true }
+        ensures { self.new ≡ edited_at self.old path.now None }
+    {
+        if let Ok(place) = search::place_of(&self.entries, path) {
+            let _entry = self.entries.remove(place);
         }
     }
 

@@ -1,9 +1,10 @@
 //! Lists of chunks: where a path belongs, and room for an entry there.
 
-ghost use Rattle.std.specs.Prelude.{◌≡◌, ◌+◌, ◌*◌, ◌<◌, ◌≤◌, true, length, vec_len, vec_capacity, OnOk, max};
+ghost use Rattle.std.specs.Prelude.{◌≡◌, ◌+◌, ◌*◌, ◌<◌, ◌≤◌, true, length, vec_len, vec_capacity, None, OnOk, max};
 ghost use Rattle.std.specs.FinMap.{is_sorted};
 ghost use Rattle.std.specs.List.{All, HoldsAt};
 ghost use Rattle.xs_model.specs.Paths.{path_cmp};
+ghost use Rattle.xs_model.specs.Trees.{edited_at};
 ghost use Rattle.node_tree.specs.Chunks.{full, half, joined, debt, halved, IsRangeFor, IsLaidOut};
 
 use crate::chunk::Chunk;
@@ -77,6 +78,24 @@ fn split(chunks: &mut Vec<Chunk>, at: usize, back: Chunk)
     let mut back = back;
     chunks[at].split_into(&mut back);
     chunks.insert(at + 1, back).unwrap();
+}
+
+/// Takes the node of a path away, if there is one. Takes no memory.
+pub fn remove(chunks: &mut Vec<Chunk>, path: &Path)
+    requires rising { is_sorted path_cmp (joined chunks.old.items) ≡ true }
+    requires some { 0 < vec_len chunks.old }
+    requires filled { All (λ c. 0 < length c) chunks.old.items }
+    ensures joined { joined chunks.new.items ≡ edited_at (joined chunks.old.items) path.now None }
+    ensures filled { All (λ c. 0 < length c) chunks.new.items }
+    ensures len { vec_len chunks.new ≤ vec_len chunks.old }
+    ensures capacity { vec_capacity chunks.new ≡ vec_capacity chunks.old }
+    ensures debt { debt chunks.new.items ≤ debt chunks.old.items }
+{
+    let at = chunk_of(chunks, path);
+    chunks[at].remove(path);
+    if chunks[at].is_empty() {
+        let _chunk = chunks.remove(at);
+    }
 }
 
 /// Makes empty chunks until there are so many.

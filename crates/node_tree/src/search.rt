@@ -1,11 +1,12 @@
 //! The search for a path among entries in order.
 
-ghost use Rattle.std.specs.Prelude.{◌≡◌, ◌≤◌, true, length, IfOk, IfErr};
+ghost use Rattle.std.specs.Prelude.{◌≡◌, true, IfOk, IfErr};
 ghost use Rattle.std.specs.FinMap.{is_sorted};
 ghost use Rattle.xs_model.specs.Paths.{path_cmp};
+ghost use Rattle.node_tree.specs.Marks.{IsPastFrom};
 ghost use Rattle.node_tree.specs.Places.{IsAt, IsGapFor};
 
-use crate::Node;
+use crate::{Node, names};
 use xs_path::Path;
 
 /// The place of a path among entries in order, or else the place at which it would stand.
@@ -15,4 +16,13 @@ pub fn place_of(entries: &[(Path, Node)], path: &Path) -> Result<usize, usize>
     ensures absent { IfErr result (IsGapFor path_cmp entries.now path.now) }
 {
     entries.binary_search_by(|entry| entry.0.cmp(path))
+}
+
+/// The place from which on the paths of entries in order stand behind `path`, and behind all that is at and below its
+/// child `leaf` if that is not empty.
+pub fn place_past(entries: &[(Path, Node)], path: &Path, leaf: &[u8]) -> usize
+    requires { is_sorted path_cmp entries.now ≡ true }
+    ensures { IsPastFrom path.now leaf.now entries.now result }
+{
+    entries.partition_point(|entry| !names::is_past(&entry.0, path, leaf))
 }

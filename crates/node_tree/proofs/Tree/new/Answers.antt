@@ -1,7 +1,6 @@
-use Rattle.std.proofs.Common.{◌≡◌, ◌<◌, ◌≤◌, length, ◌++◌, ◌∷◌, [], refl, sym, subst, ap, ◌∙◌, arith}
+use Rattle.std.proofs.Common.{◌≡◌, ◌++◌, ◌∷◌, [], refl, sym, subst, ◌∙◌, arith}
 use Rattle.std.specs.FinMap.{put}
 use Rattle.xs_model.specs.Paths.{path_cmp}
-use Rattle.xs_model.specs.Perms.{new_root_perms}
 use Rattle.xs_model.specs.Trees.{IsTree, new_tree}
 use Rattle.node_tree.specs.Chunks.{joined}
 use Rattle.node_tree.proofs.Laid.{laid_out_one}
@@ -10,8 +9,7 @@ use Rattle.node_tree.proofs.Tree.new.Goals as goal
 
 pub invariant_of-result : goal.invariant_of-result
 invariant_of-result c =
-    let node = c.new-3.ensures ∙ ap (λ v. record { value = v; perms = new_root_perms }) c.new-2.ensures in
-    let chunk = c.set.ensures ∙ (λ i. put path_cmp (c.in_ok-root.ensures i) (node i) (c.in_ok-first.ensures i)) in
+    let chunk = c.set.ensures ∙ (λ i. put path_cmp (c.in_ok-path.ensures i) (c.in_ok-node.ensures i) (c.in_ok-first.ensures i)) in
     let one : c.push.new.self.items ≡ new_tree ∷ [] = c.in_ok-push.ensures.items ∙ (λ i. c.new-chunks.ensures.items i ++ chunk i ∷ []) in
     record {
       tree = subst (λ l. IsTree (joined l)) (sym one) (IsTree-root _ refl);

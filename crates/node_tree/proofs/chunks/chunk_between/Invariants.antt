@@ -1,4 +1,4 @@
-use Rattle.std.proofs.Common.{◌+◌, ◌-◌, ◌≤◌}
+use Rattle.std.proofs.Common.{◌-◌, ◌≤◌}
 use Rattle.node_tree.specs.Chunks.{IsRangeFor}
 use Rattle.node_tree.proofs.chunks.chunk_between.Given as goal
 

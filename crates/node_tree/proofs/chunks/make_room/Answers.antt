@@ -1,6 +1,6 @@
 use Rattle.std.proofs.Common.{◌≡◌, ℕ, true, nat_le, take, refl, ◌+◌, ◌-◌, ◌<◌, ◌≤◌, List, length, get_or, [], ap, sym, subst, ◌∙◌, arith}
 use Rattle.std.specs.FinMap.{is_sorted}
-use Rattle.std.specs.List.{All, HoldsAt}
+use Rattle.std.specs.List.{HoldsAt}
 use Rattle.std.proofs.lemmas.List.{get_or_read, length-take}
 use Rattle.std.proofs.lemmas.List.Elements.{All-same}
 use Rattle.xs_model.specs.Paths.{Path, path_cmp}

@@ -10,7 +10,7 @@ use Rattle.node_tree.proofs.Halved.{debt-put, spare_left}
 use Rattle.node_tree.proofs.Laid.{laid_out_set}
 use Rattle.node_tree.proofs.Rising.{length-put-some}
 use Rattle.node_tree.proofs.Shape.{IsTree-put}
-use Rattle.node_tree.proofs.Tree.set.Goals as goal
+use Rattle.node_tree.proofs.TreeView.set.Goals as goal
 
 -- an edit of the path's chunk is the edit of the tree
 edited : (p : Path) (x : Node) (cs : List Tree) (i : ℕ) (c d t : Tree) → IsRangeFor p cs i (i + 1) → c ≡ get_or cs i c → d ≡ put path_cmp p x c → joined cs ≡ t → joined (set cs i d) ≡ put path_cmp p x t

@@ -1,9 +1,9 @@
-use Rattle.std.proofs.Common.{◌+◌, sym, ap, subst, ◌∙◌}
+use Rattle.std.proofs.Common.{◌+◌, ap, subst, ◌∙◌}
 use Rattle.xs_model.specs.Trees.{node_at}
 use Rattle.node_tree.specs.KeptTree.{KeptTree}
 use Rattle.node_tree.specs.Chunks.{IsRangeFor}
 use Rattle.node_tree.proofs.Chunked.{sorted_it, find_it}
-use Rattle.node_tree.proofs.Tree.node.Goals as goal
+use Rattle.node_tree.proofs.TreeView.node.Goals as goal
 
 pub node-requires : goal.node-requires
 node-requires c =

@@ -1,0 +1,5 @@
+use Rattle.node_tree.proofs.Removed.{IsTree-without}
+use Rattle.node_tree.proofs.laws.remove_keeps_tree.Goals as goal
+
+pub returns : goal.returns
+returns c = IsTree-without
