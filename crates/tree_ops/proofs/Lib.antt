@@ -1,0 +1,12 @@
+pub mod AboveLemmas
+pub mod RisingLemmas
+pub mod ChildLemmas
+pub mod SightLemmas
+pub mod NameLemmas
+pub mod CreationLemmas
+pub mod WalkLemmas
+pub mod RemovalLemmas
+pub mod MemberLemmas
+pub mod BelowLemmas
+pub mod RemoveLemmas
+pub mod RunLemmas

@@ -1,0 +1,6 @@
+pub mod Outcomes
+pub mod Answers
+pub mod Ways
+pub mod Rising
+pub mod Fits
+pub mod Walks
