@@ -14,7 +14,7 @@ use Rattle.xs_model.specs.Changes.{changed_paths}
 use Rattle.xs_model.specs.Watches.{Event, events}
 use Rattle.machine_model.specs.Machine.{Done, act_or_refuse, tell, change_sends, owed_events, sends_to, new_machine, reply_message, run_command}
 use Rattle.machine_model.specs.History.{sent_to}
-use Rattle.daemon.specs.Store.{store_machine, control_conn, control, Serves, Answers, AnswersTo, Runs, RunsTo}
+use Rattle.daemon.specs.Store.{store_machine, control_conn, control, Serves, Answers, Acts}
 
 told_nobody : (paths : List Path) → tell paths new_machine.conns ≡ new_machine.conns
 told_nobody [] = refl
@@ -28,15 +28,15 @@ nothing_sent : (before : Tree) (written : List Path) (after : Tree) → change_s
 nothing_sent before written after = ap (λ ms. sends_to 1 ms ++ []) (no_events before after (events before written after))
 
 -- ANSWERS. A request that is refused by its type or its form
-refused_request : (old : Tree) (head : Header) (payload : List ℕ) (error : WireErr) → request_of built_types head.kind payload 0 ≡ Err error → Answers old head payload (Err error) old
+pub refused_request : (old : Tree) (head : Header) (payload : List ℕ) (error : WireErr) → request_of built_types head.kind payload 0 ≡ Err error → Answers old head payload (Err error) old
 refused_request old head payload error asked = ap (act_or_refuse (store_machine old) 1 control_conn head.tx_id) asked
 
-whole_effect : (old : Tree) (operation : Operation) (path : Path) (reply : Result (List ℕ) WireErr) (new : Tree) → Runs operation path old reply new → run_command (store_machine old) 1 control_conn 0 (record { operation = operation; path = path; caller = control }) ≡ record { reply = reply; machine = store_machine new; sends = [] }
-whole_effect old operation path reply new runs =
+whole_effect : (old : Tree) (operation : Operation) (path : Path) (reply : Result (List ℕ) WireErr) (new : Tree) → (command operation path control old).reply ≡ reply → (command operation path control old).tree ≡ new → run_command (store_machine old) 1 control_conn 0 (record { operation = operation; path = path; caller = control }) ≡ record { reply = reply; machine = store_machine new; sends = [] }
+whole_effect old operation path reply new replied left =
     let outcome = command operation path control old in
     λ i. record {
-      reply = runs.replied i;
-      machine = record { tree = runs.left i; conns = told_nobody (changed_paths old outcome.written outcome.tree) i };
+      reply = replied i;
+      machine = record { tree = left i; conns = told_nobody (changed_paths old outcome.written outcome.tree) i };
       sends = nothing_sent old outcome.written outcome.tree i;
     }
 
@@ -49,40 +49,26 @@ served_message old message reply new done = record {
       ∙ append-nil (message_bytes (reply_message (header_of message) reply));
 }
 
--- COMMANDS, outside of transactions and in one, none of which is open
-pub answered_at_once : (old new : Tree) (bytes : List ℕ) (head : Header) (operation : Operation) (path : Path) → head.tx_id ≡ 0 → RunsTo operation path old head bytes new → AnswersTo (Command operation path) old head bytes new
-answered_at_once old new bytes head operation path outside runs = record {
-  reply = runs.reply;
-  done =
-      ap (λ tx. run_command (store_machine old) 1 control_conn tx (record { operation = operation; path = path; caller = control })) outside
-      ∙ whole_effect old operation path runs.reply new runs.runs;
-  spelled = runs.spelled;
-}
+-- a command outside of transactions, and one in a transaction, none of which is open
+pub acted_at_once : (old new : Tree) (operation : Operation) (path : Path) (reply : Result (List ℕ) WireErr) (tx : ℕ) → tx ≡ 0 → (command operation path control old).reply ≡ reply → (command operation path control old).tree ≡ new → Acts old tx (Command operation path) reply new
+acted_at_once old new operation path reply tx outside replied left =
+    ap (λ t. run_command (store_machine old) 1 control_conn t (record { operation = operation; path = path; caller = control })) outside
+    ∙ whole_effect old operation path reply new replied left
 
-pub answered_closed : (old : Tree) (bytes : List ℕ) (head : Header) (operation : Operation) (path : Path) → (head.tx_id ≡ 0 → ⊥) → bytes ≡ message_bytes (reply_message head (Err Enoent)) → AnswersTo (Command operation path) old head bytes old
-answered_closed old bytes head operation path inside spelled = record {
-  reply = Err Enoent;
-  done = rw (ne_eqb head.tx_id 0 inside) refl;
-  spelled = spelled;
-}
+pub acted_closed : (old : Tree) (request : Request) (operation : Operation) (path : Path) (tx : ℕ) → request ≡ Command operation path → (tx ≡ 0 → ⊥) → Acts old tx request (Err Enoent) old
+acted_closed old request operation path tx is inside =
+    subst (λ r. Acts old tx r (Err Enoent) old) (sym is) (rw (ne_eqb tx 0 inside) refl)
 
--- SERVED, by what the code holds: the header and the payload of the message
-pub serve_answered : (old new : Tree) (message payload bytes : List ℕ) (head : Header) (request : Request) → head ≡ header_of message → payload ≡ payload_of message → request_of built_types head.kind payload 0 ≡ Ok request → AnswersTo request old head bytes new → Serves old message bytes new
-serve_answered old new message payload bytes head request heads pays asked answers =
-    let done : Answers old head payload answers.reply new = ap (act_or_refuse (store_machine old) 1 control_conn head.tx_id) asked ∙ answers.done in
-    let whole : Answers old (header_of message) (payload_of message) answers.reply new =
-    subst (λ p. Answers old (header_of message) p answers.reply new) pays (subst (λ h. Answers old h payload answers.reply new) heads done)
+-- the whole message, by what the code holds of it
+pub serve_answered : (old new : Tree) (message payload bytes : List ℕ) (head : Header) (reply : Result (List ℕ) WireErr) → head ≡ header_of message → payload ≡ payload_of message → Answers old head payload reply new → bytes ≡ message_bytes (reply_message head reply) → Serves old message bytes new
+serve_answered old new message payload bytes head reply heads pays answers spelled =
+    let whole : Answers old (header_of message) (payload_of message) reply new =
+    subst (λ p. Answers old (header_of message) p reply new) pays (subst (λ h. Answers old h payload reply new) heads answers)
     in
     subst (λ b. Serves old message b new)
-    (ap (λ h. message_bytes (reply_message h answers.reply)) (sym heads) ∙ sym answers.spelled)
-    (served_message old message answers.reply new whole)
+    (ap (λ h. message_bytes (reply_message h reply)) (sym heads) ∙ sym spelled)
+    (served_message old message reply new whole)
 
-pub serve_refused : (old : Tree) (message payload bytes : List ℕ) (head : Header) (error : WireErr) → head ≡ header_of message → payload ≡ payload_of message → request_of built_types head.kind payload 0 ≡ Err error → bytes ≡ message_bytes (reply_message head (Err error)) → Serves old message bytes old
-serve_refused old message payload bytes head error heads pays asked spelled =
-    let whole : Answers old (header_of message) (payload_of message) (Err error) old =
-    subst (λ p. Answers old (header_of message) p (Err error) old) pays
-    (subst (λ h. Answers old h payload (Err error) old) heads (refused_request old head payload error asked))
-    in
-    subst (λ b. Serves old message b old)
-    (ap (λ h. message_bytes (reply_message h (Err error))) (sym heads) ∙ sym spelled)
-    (served_message old message (Err error) old whole)
+-- a request that is there is answered as it is by itself
+pub answered_request : (old new : Tree) (head : Header) (payload : List ℕ) (request : Request) (reply : Result (List ℕ) WireErr) → request_of built_types head.kind payload 0 ≡ Ok request → Acts old head.tx_id request reply new → Answers old head payload reply new
+answered_request old new head payload request reply asked acts = ap (act_or_refuse (store_machine old) 1 control_conn head.tx_id) asked ∙ acts

@@ -1,6 +1,4 @@
+pub mod KeepsLemmas
 pub mod AloneLemmas
-pub mod FillLemmas
-pub mod SightLemmas
 pub mod ReplyLemmas
 pub mod ServiceLemmas
-pub mod KeepsLemmas

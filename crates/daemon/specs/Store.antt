@@ -1,6 +1,6 @@
 -- What the store of this version stands for: the sequential store with domain 0's connection alone, which has neither
 -- watches nor transactions. This project's own.
-use Rattle.std.specs.Prelude.{◌≡◌, ℕ, ◌+◌, ◌≤◌, ◌<◌, Bool, true, false, List, [], ◌∷◌, ◌++◌, length, take, drop, ⊤, Result, Option, Some, None}
+use Rattle.std.specs.Prelude.{◌≡◌, ℕ, ◌≤◌, true, List, [], length, ⊤, Result, Ok, Err, Option, Some, None}
 use Rattle.xs_model.specs.declared.message.Header.{Header}
 use Rattle.xs_model.specs.declared.message.WireErr.{WireErr}
 use Rattle.xs_model.specs.Perms.{Caller}
@@ -50,43 +50,12 @@ abbrev pub Answers : Tree → Header → List ℕ → Result (List ℕ) WireErr 
 Answers old head payload reply new =
     done_of old head payload ≡ record { reply = reply; machine = store_machine new; sends = [] }
 
--- a command of domain 0 was answered so, and left this tree
-pub record Runs (operation : Operation) (path : Path) (old : Tree) (reply : Result (List ℕ) WireErr) (new : Tree) : Type 0 where
-  pub replied : (command operation path control old).reply ≡ reply
-  pub left : (command operation path control old).tree ≡ new
+-- the same of a request by itself, under a transaction number
+abbrev pub Acts : Tree → ℕ → Request → Result (List ℕ) WireErr → Tree → Type 0
+Acts old tx request reply new =
+    act (store_machine old) 1 control_conn tx request ≡ record { reply = reply; machine = store_machine new; sends = [] }
 
--- a command of domain 0 was answered by a message under this header
-pub record RunsTo (operation : Operation) (path : Path) (old : Tree) (head : Header) (bytes : List ℕ) (new : Tree) : Type 0 where
-  pub reply : Result (List ℕ) WireErr
-  pub runs : Runs operation path old reply new
-  pub spelled : bytes ≡ message_bytes (reply_message head reply)
-
--- what is found at a path has the entries of a new store, as every node of this version
-abbrev pub IsFound : Bool → Option Node → Type 0
-IsFound true None = ⊥
-IsFound true (Some node) = node.perms ≡ new_root_perms
-IsFound false None = ⊤
-IsFound false (Some node) = ⊥
-
--- the deepest present path at or above a path, by its number of names
-pub record IsNearest (tree : Tree) (path : Path) (names : ℕ) : Type 0 where
-  pub within : names ≤ length path
-  pub found : IsFound true (node_at tree (take names path))
-  pub below : names < length path → is_present tree (take (names + 1) path) ≡ false
-
--- a request of domain 0 was answered by a message under this header
-pub record AnswersTo (request : Request) (old : Tree) (head : Header) (bytes : List ℕ) (new : Tree) : Type 0 where
-  pub reply : Result (List ℕ) WireErr
-  pub done : act (store_machine old) 1 control_conn head.tx_id request ≡ record { reply = reply; machine = store_machine new; sends = [] }
-  pub spelled : bytes ≡ message_bytes (reply_message head reply)
-
--- the paths between the first so many names of a path and the path itself, in order
-abbrev pub LeadsDown : List Path → Path → ℕ → Type 0
-LeadsDown between path names = take names path ∷ (between ++ path ∷ []) ≡ way_down (take names path) (drop names path)
-
--- a present path, and the paths that lead down from it, each below the one before
-pub record Leads (tree : Tree) (paths : List Path) : Type 0 where
-  pub above : Path
-  pub names : List Name
-  pub down : above ∷ paths ≡ way_down above names
-  pub present : is_present tree above ≡ true
+-- a payload is no longer than one may be
+abbrev pub IsShort : Result (List ℕ) WireErr → Type 0
+IsShort (Ok payload) = length payload ≤ 4096
+IsShort (Err error) = ⊤

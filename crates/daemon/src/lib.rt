@@ -5,7 +5,8 @@
 //! [`Daemon::pull`] moves these out in pieces of any length. A contract speaks of each store that the daemon
 //! stands for.
 //!
-//! Today the one connection is domain 0's, with the id 1, and the requests are READ and WRITE.
+//! Today the one connection is domain 0's, with the id 1, and the requests are the seven tree commands outside of
+//! transactions.
 #![tactic(auto)]
 
 mod answer;

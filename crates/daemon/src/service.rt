@@ -1,6 +1,6 @@
 //! The daemon.
 
-ghost use Rattle.std.specs.Prelude.{◌≡◌, ◌↔◌, ◌<◌, ◌≤◌, ◌∷◌, [], length, IfOk, OnOk, OnErr, is_some, option_map};
+ghost use Rattle.std.specs.Prelude.{◌≡◌, ◌↔◌, ◌<◌, ◌≤◌, ◌∷◌, [], length, take, IfOk, OnOk, OnErr, is_some, option_map};
 ghost use Rattle.std.specs.Ordering.{nat_cmp};
 ghost use Rattle.std.specs.FinMap.{find};
 ghost use Rattle.machine_model.specs.Connections.{ring_of};
@@ -34,6 +34,8 @@ pub struct Daemon {
     store: Store,
     // What is unsent to domain 0, as long as it is connected.
     queue: Option<OutQueue>,
+    // Room for a reply.
+    reply: [u8; 4112],
 }
 
 impl Model for Daemon {
@@ -54,12 +56,13 @@ impl Daemon {
             alloc,
             store: Store::new(alloc)?,
             queue: Some(OutQueue::new(alloc)),
+            reply: [0; MESSAGE_MAX],
         })
     }
 
     /// Takes one whole request of a connection: a header and its payload. Refused, nothing has changed.
     ///
-    /// O(length of the message, and log nodes comparisons of paths for each name of its path).
+    /// O(length of the message, and what the command costs on the tree, as `tree_ops` says).
     pub fn submit(&mut self, conn: u32, message: &[u8]) -> Result<Submit, NoMemory>
         requires { 16 ≤ length message.now }
         ensures ok { IfOk result (Submits self.old conn message.now self.new) }
@@ -71,7 +74,7 @@ impl Daemon {
         if conn != CONTROL {
             return Ok(Submit::Gone);
         }
-        submit_to(self.alloc, &mut self.store, queue, message)
+        submit_to(self.alloc, &mut self.store, queue, &mut self.reply, message)
     }
 
     /// Moves the first unsent bytes of a connection into `into`, as many as there are and as find room. The rest
@@ -130,6 +133,7 @@ fn submit_to(
     alloc: Global,
     store: &mut Store,
     queue: &mut OutQueue,
+    reply: &mut [u8; 4112],
     message: &[u8],
 ) -> Result<Submit, NoMemory>
     requires { 16 ≤ length message.now }
@@ -141,8 +145,8 @@ fn submit_to(
         return Ok(Submit::Held { unsent });
     }
     queue.reserve(MESSAGE_MAX)?;
-    let reply = store.serve(alloc, message)?;
-    queue.push(reply.as_slice());
+    let len = store.serve(alloc, message, reply)?;
+    queue.push(first(reply, len));
     Ok(Submit::Done(Door::Same))
 }
 
@@ -155,4 +159,12 @@ fn pull_from(queue: &mut OutQueue, into: &mut [u8]) -> Pull
         0 => Pull::Nothing,
         count => Pull::Got(count),
     }
+}
+
+/// The first so many bytes of a reply.
+fn first(reply: &[u8; 4112], len: usize) -> &[u8]
+    requires { len ≤ 4112 }
+    ensures { result.now ≡ take len reply.now }
+{
+    &reply[..len]
 }
