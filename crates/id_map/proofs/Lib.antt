@@ -1,2 +1,3 @@
 mod MapLemmas
 mod NextLemmas
+mod FreeLemmas

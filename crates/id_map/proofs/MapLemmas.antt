@@ -219,7 +219,7 @@ module _ {X : Type 0} where
   higher x (e ∷ es) h zero d lt = in_order x e.0 (both _ _ h).0
   higher x (e ∷ es) h (suc j) d lt = higher x es (both _ _ h).1 j d (omega arith)
 
-  rising : (es : List (ℕ × X)) → is_sorted nat_cmp es ≡ true → (i j : ℕ) (d : ℕ × X) → i < j → j < length es → (get_or es i d).0 < (get_or es j d).0
+  pub rising : (es : List (ℕ × X)) → is_sorted nat_cmp es ≡ true → (i j : ℕ) (d : ℕ × X) → i < j → j < length es → (get_or es i d).0 < (get_or es j d).0
   rising [] h i j d lt within = absurd (omega arith)
   rising (e ∷ es) h i zero d lt within = absurd (omega arith)
   rising (e ∷ es) h zero (suc j) d lt within = higher e.0 es (both _ _ h).0 j d (omega arith)

@@ -11,7 +11,7 @@ not_lower x y h = grind (arith, nat_tests)
 
 module _ {X : Type 0} where
   -- an entry of a lower id counts for nothing
-  find_past : (k : ℕ) (e : ℕ × X) (es : List (ℕ × X)) → e.0 < k → find nat_cmp k (e ∷ es) ≡ find nat_cmp k es
+  pub find_past : (k : ℕ) (e : ℕ × X) (es : List (ℕ × X)) → e.0 < k → find nat_cmp k (e ∷ es) ≡ find nat_cmp k es
   find_past k e es lt = ap (λ o. cond (is_eq o) (Some e.1) (find nat_cmp k es)) (greater k e.0 lt)
 
   above_kept : (k : ℕ) (e : ℕ × X) (es : List (ℕ × X)) → nat_lt k e.0 ≡ true → above k (e ∷ es) ≡ e ∷ above k es
@@ -20,7 +20,7 @@ module _ {X : Type 0} where
   above_past : (k : ℕ) (e : ℕ × X) (es : List (ℕ × X)) → nat_lt k e.0 ≡ false → above k (e ∷ es) ≡ above k es
   above_past k e es t = ap (λ b. cond b (e ∷ above k es) (above k es)) t
 
-  found_itself : (e : ℕ × X) (es : List (ℕ × X)) → find nat_cmp e.0 (e ∷ es) ≡ Some e.1
+  pub found_itself : (e : ℕ × X) (es : List (ℕ × X)) → find nat_cmp e.0 (e ∷ es) ≡ Some e.1
   found_itself e es = ap (λ o. cond (is_eq o) (Some e.1) (find nat_cmp e.0 es)) (ties e.0)
 
   -- no item has an id before the first

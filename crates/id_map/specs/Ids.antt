@@ -1,4 +1,4 @@
--- Which id comes next in a list of entries in rising order of their ids. This project's own.
+-- Which id comes next in a list of entries in rising order of their ids, and which is free. This project's own.
 use Rattle.std.specs.Prelude.{◌≡◌, ℕ, ◌<◌, ◌≤◌, true, List, [], ◌∷◌, Option, Some, None, is_some, nat_lt}
 use Rattle.std.specs.FinMap.{find}
 use Rattle.std.specs.FinMap.Entries.{where_key}
@@ -18,3 +18,9 @@ pub record IsNext {T : Type 0} (entries : List (ℕ × T)) (id next : ℕ) : Typ
   pub above : id < next
   pub there : is_some (find nat_cmp next entries) ≡ true
   pub least : (k : ℕ) → id < k → is_some (find nat_cmp k entries) ≡ true → next ≤ k
+
+-- the least id from 1 on that has no item
+pub record IsLeastFree {T : Type 0} (entries : List (ℕ × T)) (id : ℕ) : Type 0 where
+  pub positive : 1 ≤ id
+  pub free : find nat_cmp id entries ≡ None
+  pub least : (k : ℕ) → 1 ≤ k → k < id → is_some (find nat_cmp k entries) ≡ true

@@ -1,13 +1,14 @@
 //! The map: a list of entries in rising order of their ids.
 
-ghost use Rattle.std.specs.Prelude.{◌≡◌, ◌==◌, ◌≤◌, not, true, [], None, is_some, length, drop, IfSome, IfOk, IfErr, OnOk, OnErr};
+ghost use Rattle.std.specs.Prelude.{◌≡◌, ◌==◌, ◌≤◌, ◌<◌, not, nat_lt, true, [], None, is_some, length, drop, IfSome, IfOk, IfErr, OnOk, OnErr};
 ghost use Rattle.std.specs.Borrow.{LendsIf, sem};
 ghost use Rattle.std.specs.FinMap.{find, put, is_sorted};
 ghost use Rattle.std.specs.FinMap.Entries.{where_key};
+ghost use Rattle.std.specs.List.{list_all};
 ghost use Rattle.std.specs.Option.{option_copied, option_copied_mut};
 ghost use Rattle.std.specs.Ordering.{nat_cmp};
-ghost use Rattle.id_map.specs.Ids.{above, first_id, IsNext};
-ghost use Rattle.id_map.specs.Places.{IsAt, IsGapFor};
+ghost use Rattle.id_map.specs.Ids.{above, first_id, IsNext, IsLeastFree};
+ghost use Rattle.id_map.specs.Places.{IsAt, IsGapFor, IsRow};
 ghost use Rattle.id_map.specs.contracts.map.IdMap.{the_row};
 
 use std::alloc::Global;
@@ -59,6 +60,46 @@ fn id_above<T>(entries: &[(u32, T)], id: u32) -> Option<u32>
     ensures { result ≡ first_id (above id entries.now) }
 {
     entries.get(place_above(entries, id)).map(|entry| entry.0)
+}
+
+/// The entries with positive ids. O(log entries).
+fn positive<T>(entries: &[(u32, T)]) -> &[(u32, T)]
+    requires { is_sorted nat_cmp entries.now ≡ true }
+    ensures entries { result.now ≡ above 0 entries.now }
+    ensures rising { is_sorted nat_cmp result.now ≡ true }
+    ensures positive { list_all (λ e. nat_lt 0 e.0) result.now ≡ true }
+    ensures len { length result.now ≤ length entries.now }
+{
+    &entries[place_above(entries, 0)..]
+}
+
+/// How many of the first entries have the ids 1, 2, 3 and so on: as long as an entry's id is one more than its
+/// place, so is that of each before it. O(log entries).
+fn in_row<T>(entries: &[(u32, T)]) -> usize
+    requires rising { is_sorted nat_cmp entries.now ≡ true }
+    requires positive { list_all (λ e. nat_lt 0 e.0) entries.now ≡ true }
+    ensures { IsRow entries.now result }
+{
+    let mut low = 0;
+    let mut high = entries.len();
+    while low < high {
+        let middle = low + (high - low) / 2;
+        if entries[middle].0 as usize == middle + 1 {
+            low = middle + 1;
+        } else {
+            high = middle;
+        }
+    }
+    low
+}
+
+/// The least id from 1 on that no entry has. O(log entries).
+fn id_free<T>(entries: &[(u32, T)]) -> u32
+    requires rising { is_sorted nat_cmp entries.now ≡ true }
+    requires room { length entries.now < 4294967295 }
+    ensures { IsLeastFree entries.now result }
+{
+    in_row(positive(entries)) as u32 + 1
 }
 
 impl<T> IdMap<T> {
@@ -115,6 +156,15 @@ impl<T> IdMap<T> {
         ensures walk { IfSome result (λ next. above next self.now ≡ drop 1 (above id self.now)) }
     {
         id_above(&self.entries, id)
+    }
+
+    /// The least id from 1 on that has no item. O(log items).
+    pub fn least_free(&self) -> u32
+        requires { length self.now < 4294967295 }
+        ensures least { IsLeastFree self.now result }
+        ensures rising { is_sorted nat_cmp self.now ≡ true }
+    {
+        id_free(&self.entries)
     }
 }
 

@@ -93,3 +93,28 @@ fn changes_a_text(rt: HostRuntime) -> Result<(), Fail> {
     assert_eq!(rt; map.get(4).map(|text| text.len()), Some(2));
     Ok(())
 }
+
+#[test]
+fn finds_the_least_free_id(rt: HostRuntime) -> Result<(), Fail> {
+    let mut map = IdMap::new(rt.alloc());
+    assert_eq!(rt; map.least_free(), 1);
+    for (id, free) in [
+        (2, 1),
+        (0, 1),
+        (7, 1),
+        (1, 3),
+        (4, 3),
+        (3, 5),
+        (5, 6),
+        (6, 8),
+    ] {
+        assert!(rt; map.get(id).is_none());
+        map.add(id, ())?;
+        assert!(rt; map.len() < 10);
+        assert_eq!(rt; map.least_free(), free);
+    }
+    assert!(rt; map.remove(4));
+    assert!(rt; map.len() < 10);
+    assert_eq!(rt; map.least_free(), 4);
+    Ok(())
+}
