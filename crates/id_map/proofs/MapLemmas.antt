@@ -14,7 +14,15 @@ use Rattle.std.proofs.lemmas.List.{take-append-drop, set_split, drop_more, get_o
 use Rattle.std.proofs.lemmas.List.Elements.{filter-append}
 use Rattle.std.proofs.lemmas.List.Sorted.{searchable_from_sorted}
 use Rattle.id_map.specs.Ids.{above}
+use Rattle.id_map.specs.Maps.{Map}
 use Rattle.id_map.specs.Places.{IsAt, IsGapFor}
+
+abbrev pub with_entries : {X : Type 0} → List (ℕ × X) → ℕ → Map X
+with_entries entries spare = record { entries = entries; spare = spare }
+
+-- maps that are one have the same entries
+pub entries_of : {X : Type 0} {a b : Map X} → a ≡ b → a.entries ≡ b.entries
+entries_of same = ap (λ m. m.entries) same
 
 pub both : (a b : Bool) → (a && b) ≡ true → (a ≡ true) × (b ≡ true)
 both true b h = (refl, h)

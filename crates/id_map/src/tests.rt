@@ -25,9 +25,9 @@ impl Marked {
 
 /// Marks the number of an id, if it has one.
 fn mark(map: &mut IdMap<Marked>, id: u32)
-    ensures there { IfSome (find nat_cmp id map.old)
-        (λ item. map.new ≡ put nat_cmp id (record item { mark = true }) map.old) }
-    ensures absent { find nat_cmp id map.old ≡ None → map.new ≡ map.old }
+    ensures there { IfSome (find nat_cmp id map.old.entries)
+        (λ item. map.new.entries ≡ put nat_cmp id (record item { mark = true }) map.old.entries) }
+    ensures absent { find nat_cmp id map.old.entries ≡ None → map.new ≡ map.old }
 {
     if let Some(item) = map.get_mut(id) {
         item.set_mark();
@@ -36,9 +36,9 @@ fn mark(map: &mut IdMap<Marked>, id: u32)
 
 /// Appends to the text of an id, and says whether it has one.
 fn append(map: &mut IdMap<Bytes>, id: u32, more: &[u8]) -> Result<bool, NoMemory>
-    ensures there { OnOk result (IfSome (find nat_cmp id map.old)
-        (λ text. map.new ≡ put nat_cmp id (text ++ more.now) map.old)) }
-    ensures absent { find nat_cmp id map.old ≡ None → map.new ≡ map.old }
+    ensures there { OnOk result (IfSome (find nat_cmp id map.old.entries)
+        (λ text. map.new.entries ≡ put nat_cmp id (text ++ more.now) map.old.entries)) }
+    ensures absent { find nat_cmp id map.old.entries ≡ None → map.new ≡ map.old }
 {
     match map.get_mut(id) {
         Some(text) => {
@@ -116,5 +116,15 @@ fn finds_the_least_free_id(rt: HostRuntime) -> Result<(), Fail> {
     assert!(rt; map.remove(4));
     assert!(rt; map.len() < 10);
     assert_eq!(rt; map.least_free(), 4);
+    Ok(())
+}
+
+#[test]
+fn puts_items_where_memory_was_reserved(rt: HostRuntime) -> Result<(), Fail> {
+    let mut map = IdMap::new(rt.alloc());
+    map.reserve(2)?;
+    map.put(3, 30);
+    map.put(3, 31);
+    assert_eq!(rt; (map.len(), map.get(3).copied()), (1, Some(31)));
     Ok(())
 }

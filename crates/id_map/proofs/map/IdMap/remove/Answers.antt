@@ -2,7 +2,7 @@ use Rattle.std.proofs.Common.{◌≡◌, true, ℕ, List, is_some, sym, ap, subs
 use Rattle.std.specs.FinMap.{find, is_sorted}
 use Rattle.std.specs.Ordering.{nat_cmp}
 use Rattle.id_map.specs.Places.{IsAt, IsGapFor}
-use Rattle.id_map.proofs.MapLemmas.{find_at, remove_at, find_in_gap, without_in_gap, rising-without, without}
+use Rattle.id_map.proofs.MapLemmas.{entries_of, find_at, remove_at, find_in_gap, without_in_gap, rising-without, without}
 use Rattle.id_map.proofs.map.IdMap.remove.Goals as goal
 
 pub invariant_of-self : goal.invariant_of-self
@@ -16,20 +16,20 @@ pub returns-in-Ok-clause-found : goal.returns-in-Ok-clause-found
 returns-in-Ok-clause-found g c =
     let at = subst (λ (es : List (ℕ × g.row.T.Denot)). IsAt es c.args.id c.in-Ok.place) c.deref.ensures.value c.in-Ok.ensures.found in
     sym (ap is_some (find_at c.self.inside.entries.items c.args.id c.in-Ok.place at c.remove.result c.remove.ensures.value))
-    ∙ ap (λ (es : List (ℕ × g.row.T.Denot)). is_some (find nat_cmp c.args.id es)) c.self.view_is
+    ∙ ap (λ (es : List (ℕ × g.row.T.Denot)). is_some (find nat_cmp c.args.id es)) (entries_of c.self.view_is)
 
 pub returns-in-Ok-clause-after : goal.returns-in-Ok-clause-after
 returns-in-Ok-clause-after g c =
     let at = subst (λ (es : List (ℕ × g.row.T.Denot)). IsAt es c.args.id c.in-Ok.place) c.deref.ensures.value c.in-Ok.ensures.found in
     c.remove.ensures.items ∙ remove_at c.self.inside.entries.items c.args.id c.in-Ok.place at c.remove.result c.remove.ensures.value
-    ∙ ap (λ (es : List (ℕ × g.row.T.Denot)). without c.args.id es) c.self.view_is
+    ∙ ap (λ (es : List (ℕ × g.row.T.Denot)). without c.args.id es) (entries_of c.self.view_is)
 
 pub returns-in-Err-clause-found : goal.returns-in-Err-clause-found
 returns-in-Err-clause-found g c =
-    let gap = subst (λ (es : List (ℕ × g.row.T.Denot)). IsGapFor es c.args.id c.in-Err.field-0) (c.deref.ensures.value ∙ c.self.view_is) c.in-Err.ensures.absent in
-    sym (ap is_some (find_in_gap c.args.self.now c.args.id c.in-Err.field-0 gap))
+    let gap = subst (λ (es : List (ℕ × g.row.T.Denot)). IsGapFor es c.args.id c.in-Err.field-0) (c.deref.ensures.value ∙ entries_of c.self.view_is) c.in-Err.ensures.absent in
+    sym (ap is_some (find_in_gap c.args.self.now.entries c.args.id c.in-Err.field-0 gap))
 
 pub returns-in-Err-clause-after : goal.returns-in-Err-clause-after
 returns-in-Err-clause-after g c =
-    let gap = subst (λ (es : List (ℕ × g.row.T.Denot)). IsGapFor es c.args.id c.in-Err.field-0) (c.deref.ensures.value ∙ c.self.view_is) c.in-Err.ensures.absent in
-    sym (without_in_gap c.args.self.now c.args.id c.in-Err.field-0 gap)
+    let gap = subst (λ (es : List (ℕ × g.row.T.Denot)). IsGapFor es c.args.id c.in-Err.field-0) (c.deref.ensures.value ∙ entries_of c.self.view_is) c.in-Err.ensures.absent in
+    sym (without_in_gap c.args.self.now.entries c.args.id c.in-Err.field-0 gap)
