@@ -23,7 +23,8 @@ pub struct Inbox {
     start: usize,
 }
 
-/// Inboxes by the ids of their connections. Contracts see them as a list of entries in rising order of the ids.
+/// Inboxes by the ids of their connections. Contracts see the list of entries in rising order of the ids, and for how
+/// many more inboxes there is memory: `reserve` takes it, and `put` takes none.
 pub type Ins = IdMap<Inbox>;
 
 impl Model for Inbox {

@@ -45,10 +45,13 @@ fn stops_at_a_long_header(rt: HostRuntime) -> Result<(), Fail> {
 #[test]
 fn keeps_inboxes_by_id(rt: HostRuntime) -> Result<(), Fail> {
     let mut ins = Ins::new(rt.alloc());
-    for id in [7, 2, 5] {
+    for id in [7, 2] {
         assert!(rt; ins.get(id).is_none());
         ins.add(id, Inbox::of(rt.alloc(), &READ[..9])?)?;
     }
+    let inbox = Inbox::of(rt.alloc(), &READ[..9])?;
+    ins.reserve(1)?;
+    ins.put(5, inbox);
     let mut fed = 0;
     if let Some(inbox) = ins.get_mut(5) {
         assert_eq!(rt; inbox.room(), 7);
