@@ -1,0 +1,4 @@
+mod RingLemmas
+mod KeepLemmas
+mod ConnLemmas
+pub mod SmallLemmas
