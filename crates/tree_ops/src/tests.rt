@@ -19,9 +19,10 @@ fn asked(alloc: Global, tree: &mut Tree, kind: u32, payload: &[u8], domid: u16) 
         tx_id: 0,
         len: 0,
     };
-    match read_request(alloc, head, payload, domid) {
-        Ok(Request::Command(command)) => Ok(run(alloc, &command, domid, None, tree)?),
-        Err(fault) => Err(fault)?,
+    match &read_request(alloc, head, payload, domid) {
+        Ok(Request::Command(command)) => Ok(run(alloc, command, domid, None, tree)?),
+        Ok(_) => Err("no command on the tree")?,
+        Err(fault) => Err(*fault)?,
     }
 }
 

@@ -1,5 +1,5 @@
 -- A header and a payload, one behind the other.
-use Rattle.std.proofs.Common.{◌≡◌, ℕ, ◌+◌, List, ◌++◌, length, take, drop, sym, ap, ◌∙◌, append_assoc, length-append}
+use Rattle.std.proofs.Common.{◌≡◌, ℕ, ◌+◌, List, ◌++◌, length, take, sym, ap, ◌∙◌, append_assoc, length-append}
 use Rattle.std.proofs.Math.Seq.{take-append_seam}
 
 pub both_put : (head payload old mid new : List ℕ) → length head ≡ 16 → mid ≡ head ++ old → (rest : List ℕ) → new ≡ take 16 mid ++ (payload ++ rest) → take (16 + length payload) new ≡ head ++ payload

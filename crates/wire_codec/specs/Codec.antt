@@ -1,11 +1,11 @@
 -- What the readers of messages answer, beside the definitions of `xs_model`.
-use Rattle.std.specs.Prelude.{◌≡◌, ℕ, ◌^◌, ◌<◌, false, List, Option, Some, None, Result, Ok, Err, ⊤}
+use Rattle.std.specs.Prelude.{◌≡◌, ℕ, ◌^◌, ◌<◌, ◌≤◌, false, List, Option, Some, None, Result, Ok, Err, ⊤}
 use Rattle.std.specs.Borrow.{Bor}
 use Rattle.wire_codec.specs.declared.request.TreeOp.{TreeOp}
 use Rattle.wire_codec.specs.declared.request.TreeOp.TheVariants as op
 use Rattle.wire_codec.specs.declared.request.TreeCommand.{TreeCommand}
 use Rattle.wire_codec.specs.declared.request.Request.{Request}
-use Rattle.wire_codec.specs.declared.request.Request.TheVariants.{Command}
+use Rattle.wire_codec.specs.declared.request.Request.TheVariants.{Command, Introduce, Release, DomainPath, IsIntroduced, SetTarget}
 use Rattle.wire_codec.specs.declared.request.RequestErr.{RequestErr}
 use Rattle.wire_codec.specs.declared.request.RequestErr.TheVariants.{Enosys, Einval, NoMemory}
 use Rattle.xs_model.specs.declared.message.Header.{Header}
@@ -28,6 +28,10 @@ pub record Fits (head : Header) : Type 0 where
 abbrev pub cut_view : Bor (List ℕ) × Bor (List ℕ) → List ℕ × List ℕ
 cut_view cut = (cut.0.now, cut.1.now)
 
+-- three slices as three lists
+abbrev pub strings_view : Bor (List ℕ) × Bor (List ℕ) × Bor (List ℕ) → List ℕ × List ℕ × List ℕ
+strings_view cut = (cut.0.now, cut.1.now, cut.2.now)
+
 -- a request as the definitions have it
 abbrev pub operation_of : TreeOp → Operation
 operation_of op.Directory = model.Directory
@@ -40,13 +44,24 @@ operation_of (op.SetPerms perms) = model.SetPerms perms
 
 abbrev pub request_view : Request → model.Request
 request_view (Command command) = model.Command (operation_of command.op) command.path
+request_view (Introduce domid evtchn) = model.Introduce domid evtchn
+request_view (Release domid) = model.Release domid
+request_view (DomainPath domid) = model.DomainPath domid
+request_view (IsIntroduced domid) = model.IsIntroduced domid
+request_view (SetTarget domid target) = model.SetTarget domid target
 
 -- the command is not RM of `/`, nor SET_PERMS to no entries
 abbrev pub IsInForm : TreeCommand → Type 0
 IsInForm command = is_out_of_form (operation_of command.op) command.path ≡ false
 
+-- it is neither of these commands, nor RELEASE of domain 0, and it names no domain above the greatest one
 abbrev pub AsksInForm : Request → Type 0
 AsksInForm (Command command) = IsInForm command
+AsksInForm (Introduce domid evtchn) = domid ≤ 32751
+AsksInForm (Release domid) = (0 < domid) × (domid ≤ 32751)
+AsksInForm (DomainPath domid) = domid ≤ 32751
+AsksInForm (IsIntroduced domid) = domid ≤ 32751
+AsksInForm (SetTarget domid target) = (domid ≤ 32751) × (target ≤ 32751)
 
 -- the path of bytes, and Einval exactly where they are none
 abbrev pub IsPathOf : Result Path RequestErr → Result Path PathFault → Type 0

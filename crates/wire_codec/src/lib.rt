@@ -4,6 +4,7 @@
 //! are each other's inverse; [`read_request`] reads the payload of a message that the store serves.
 #![tactic(auto)]
 
+mod domain;
 mod head;
 pub mod laws;
 mod payload;

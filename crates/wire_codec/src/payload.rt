@@ -1,9 +1,9 @@
 //! The strings, paths and permission entries of a payload.
 
 ghost use Rattle.std.specs.Prelude.{◌≡◌, ◌≤◌, ◌+◌, List, [], ℕ, length, drop, take, option_map};
-ghost use Rattle.xs_model.specs.Requests.{cut_string, one_string, one_path, perms_of};
+ghost use Rattle.xs_model.specs.Requests.{cut_string, one_string, two_strings, one_path, perms_of};
 ghost use Rattle.xs_model.specs.Paths.{path_of};
-ghost use Rattle.wire_codec.specs.Codec.{cut_view, IsPathOf, IsPart};
+ghost use Rattle.wire_codec.specs.Codec.{cut_view, strings_view, IsPathOf, IsPart};
 
 use crate::request::RequestErr;
 use std::alloc::Global;
@@ -31,11 +31,20 @@ fn after(bytes: &[u8], i: usize) -> &[u8]
 }
 
 /// The bytes of a payload that is exactly one string.
-fn one_string(payload: &[u8]) -> Option<&[u8]>
+pub fn one_string(payload: &[u8]) -> Option<&[u8]>
     ensures { option_map (λ s. s.now) result ≡ one_string payload.now }
 {
     let (string, rest) = cut_string(payload)?;
     if rest.is_empty() { Some(string) } else { None }
+}
+
+/// Two strings, and the bytes after them. O(the former).
+pub fn two_strings(payload: &[u8]) -> Option<(&[u8], &[u8], &[u8])>
+    ensures { option_map strings_view result ≡ two_strings payload.now }
+{
+    let (first, behind) = cut_string(payload)?;
+    let (second, rest) = cut_string(behind)?;
+    Some((first, second, rest))
 }
 
 /// The path that a domain's bytes are.

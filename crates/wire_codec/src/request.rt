@@ -4,7 +4,7 @@ ghost use Rattle.std.specs.Prelude.{◌≡◌, ◌≤◌, IfOk};
 ghost use Rattle.xs_model.specs.Requests.{request_of, built_types, path_request, write_request, rm_request, set_perms_request, or_einval};
 ghost use Rattle.wire_codec.specs.Codec.{IsRequest, AsksInForm, operation_of};
 
-use crate::payload;
+use crate::{domain, payload};
 use std::alloc::{AllocError, Global};
 use thiserror::Error;
 use xs_base::Bytes;
@@ -42,6 +42,16 @@ pub struct TreeCommand {
 #[derive(Debug, Drop)]
 pub enum Request {
     Command(TreeCommand),
+    /// A domain gets a ring connection, with this event channel.
+    Introduce { domid: u16, evtchn: u32 },
+    /// A domain loses its ring connection.
+    Release { domid: u16 },
+    /// The path of a domain is wanted.
+    DomainPath { domid: u16 },
+    /// Whether a domain has a ring connection is wanted.
+    IsIntroduced { domid: u16 },
+    /// A domain stands for another one besides itself.
+    SetTarget { domid: u16, target: u16 },
 }
 
 /// Why a message asks for nothing: the first refusal, in the order of the variants.
@@ -79,7 +89,7 @@ pub fn read_request(
 ) -> Result<Request, RequestErr>
     requires { domid ≤ 32751 }
     ensures asked { IsRequest result (request_of built_types head.kind payload.now domid) }
-    // It is not RM of `/`, nor SET_PERMS without entries.
+    // It is not RM of `/`, nor RELEASE of domain 0, nor SET_PERMS without entries, and its domids are in bounds.
     ensures in_form { IfOk result AsksInForm }
 {
     match head.kind {
@@ -90,6 +100,11 @@ pub fn read_request(
         kind::MKDIR => at_path(alloc, TreeOp::Mkdir, payload, domid),
         kind::RM => rm(alloc, payload, domid),
         kind::SET_PERMS => set_perms(alloc, payload, domid),
+        kind::INTRODUCE => domain::introduce(payload).ok_or(RequestErr::Einval),
+        kind::RELEASE => domain::release(payload).ok_or(RequestErr::Einval),
+        kind::GET_DOMAIN_PATH => domain::domain_path(payload).ok_or(RequestErr::Einval),
+        kind::IS_DOMAIN_INTRODUCED => domain::is_introduced(payload).ok_or(RequestErr::Einval),
+        kind::SET_TARGET => domain::set_target(payload).ok_or(RequestErr::Einval),
         _ => Err(RequestErr::Enosys),
     }
 }

@@ -41,6 +41,11 @@ fn told(got: &Result<Request, RequestErr>) -> &'static str {
             TreeOp::Rm => "rm",
             TreeOp::SetPerms(_) => "set perms",
         },
+        Ok(Request::Introduce { .. }) => "introduce",
+        Ok(Request::Release { .. }) => "release",
+        Ok(Request::DomainPath { .. }) => "domain path",
+        Ok(Request::IsIntroduced { .. }) => "is introduced",
+        Ok(Request::SetTarget { .. }) => "set target",
         Err(RequestErr::Einval) => "einval",
         Err(RequestErr::Enosys) => "enosys",
         Err(RequestErr::NoMemory) => "memory",
@@ -64,6 +69,40 @@ fn reads_each_type(rt: HostRuntime) -> Result<(), Fail> {
         if let Ok(Request::Command(command)) = &got {
             assert_eq!(rt; command.path.bytes(), path);
         }
+    }
+    Ok(())
+}
+
+/// The numbers that a request has, or zeros.
+fn numbers(got: &Result<Request, RequestErr>) -> (u16, u32) {
+    match got {
+        Ok(Request::Introduce { domid, evtchn }) => (*domid, *evtchn),
+        Ok(Request::Release { domid }) => (*domid, 0),
+        Ok(Request::DomainPath { domid }) => (*domid, 0),
+        Ok(Request::IsIntroduced { domid }) => (*domid, 0),
+        Ok(Request::SetTarget { domid, target }) => (*domid, u32::from(*target)),
+        Ok(Request::Command(_)) | Err(_) => (0, 0),
+    }
+}
+
+#[test]
+fn reads_each_domain_type(rt: HostRuntime) -> Result<(), Fail> {
+    let cases = [
+        (8, b"7\05\09\0".as_slice(), "introduce", (7, 9)),
+        (8, b"0\05\04294967295\0x", "introduce", (0, 4_294_967_295)),
+        (8, b"7\018446744073709551615\009\0\0", "introduce", (7, 9)),
+        (9, b"7\0", "release", (7, 0)),
+        (9, b"007\0", "release", (7, 0)),
+        (10, b"32751\0", "domain path", (32_751, 0)),
+        (10, b"00\0", "domain path", (0, 0)),
+        (17, b"7\0", "is introduced", (7, 0)),
+        (19, b"7\08\0", "set target", (7, 8)),
+        (19, b"00\0032751\0", "set target", (0, 32_751)),
+    ];
+    for (kind, payload, want, pair) in cases {
+        let got = read_request(rt.alloc(), head_of(kind), payload, 0);
+        assert_eq!(rt; told(&got), want);
+        assert_eq!(rt; numbers(&got), pair);
     }
     Ok(())
 }
@@ -92,6 +131,25 @@ fn refuses_what_is_out_of_form(rt: HostRuntime) -> Result<(), Fail> {
         (14, b"/a\0n0\0r\0"),
         (14, b"/a\0n0\0r1"),
         (14, b"/a\0n0\0\0"),
+        (8, b"7\05\0"),
+        (8, b"7\05\09"),
+        (8, b"7\018446744073709551616\09\0"),
+        (8, b"7\05\04294967296\0"),
+        (8, b"32752\05\09\0"),
+        (8, b"7\0\09\0"),
+        (9, b"0\0"),
+        (9, b"00\0"),
+        (9, b"7\0\0"),
+        (10, b"7"),
+        (10, b"\0"),
+        (10, b"32752\0"),
+        (17, b"7\0x"),
+        (17, b"7x\0"),
+        (19, b"7\0"),
+        (19, b"7\08"),
+        (19, b"7\08\09\0"),
+        (19, b"7\032752\0"),
+        (19, b"32752\08\0"),
     ];
     for (kind, payload) in cases {
         let got = read_request(rt.alloc(), head_of(kind), payload, 7);

@@ -230,7 +230,9 @@ all_types =
 
 -- The types that this version serves; each change that builds a type makes the list longer.
 abbrev pub built_types : List ℕ
-built_types = DIRECTORY ∷ READ ∷ GET_PERMS ∷ WRITE ∷ MKDIR ∷ RM ∷ SET_PERMS ∷ []
+built_types =
+    DIRECTORY ∷ READ ∷ GET_PERMS ∷ INTRODUCE ∷ RELEASE ∷ GET_DOMAIN_PATH ∷ WRITE ∷ MKDIR ∷ RM ∷ SET_PERMS
+    ∷ IS_DOMAIN_INTRODUCED ∷ SET_TARGET ∷ []
 
 -- The request, or the first refusal: a type that is not served, then a payload outside its form
 abbrev pub request_of : List ℕ → ℕ → List ℕ → ℕ → Result Request WireErr

@@ -1,4 +1,4 @@
-use Rattle.std.proofs.Common.{◌≡◌, ℕ, List, ◌+◌, ◌++◌, length, drop, refl, ap, ◌∙◌}
+use Rattle.std.proofs.Common.{◌≡◌, ℕ, List, ◌+◌, ◌++◌, length, drop, ap, ◌∙◌}
 use Rattle.wire_codec.proofs.PutLemmas.{both_put}
 use Rattle.wire_codec.proofs.head.put_message.Goals as goal
 
