@@ -1,4 +1,8 @@
 pub mod KeepsLemmas
-pub mod AloneLemmas
+pub mod PeerLemmas
+pub mod SubmitLemmas
+pub mod FreshLemmas
 pub mod ReplyLemmas
-pub mod ServiceLemmas
+pub mod UnsentLemmas
+pub mod ActLemmas
+pub mod DomainLemmas

@@ -1,3 +1,4 @@
-pub mod Store
 pub mod Keeps
+pub mod Peers
+pub mod Acts
 pub mod Submits

@@ -4,28 +4,24 @@ use Rattle.std.specs.Prelude.{◌≡◌, ℕ, ◌<◌, ◌≤◌, ◌==◌, not,
 use Rattle.std.specs.Ordering.{nat_cmp}
 use Rattle.std.specs.FinMap.{find, put}
 use Rattle.std.specs.FinMap.Entries.{where_key}
-use Rattle.machine_model.specs.Machine.{Machine, Asked, Lost, Step, built_step, step_with}
+use Rattle.machine_model.specs.declared.ConnSpec.{ConnSpec}
+use Rattle.machine_model.specs.Connections.{fresh}
+use Rattle.machine_model.specs.Machine.{Machine, Asked, Lost, Step, built_step, step_with, with_conn}
 use Rattle.machine_model.specs.History.{sent_to}
 use Rattle.daemon.specs.declared.answer.Door.{Door}
-use Rattle.daemon.specs.declared.answer.Door.TheVariants.{Same}
 use Rattle.daemon.specs.declared.answer.Submit.{Submit}
 use Rattle.daemon.specs.declared.answer.Submit.TheVariants as submit
 use Rattle.daemon.specs.declared.answer.Pull.{Pull}
 use Rattle.daemon.specs.declared.answer.Pull.TheVariants as pull
 use Rattle.daemon.specs.Keeps.{Kept, StandsFor}
+use Rattle.daemon.specs.Peers.{crowd_limit}
+use Rattle.daemon.specs.Acts.{bytes_or_none, IsDoor}
 
--- so many unsent bytes may a connection have, for a request to be taken, and after any request
+-- so many unsent bytes may a connection have, for a request to be taken
 abbrev pub held_limit : ℕ
 held_limit = 32768
 
-abbrev pub crowd_limit : ℕ
-crowd_limit = 16777216
-
 -- UNSENT BYTES after a step: what is sent joins them, and a new connection had none
-abbrev pub bytes_or_none : Option (List ℕ) → List ℕ
-bytes_or_none None = []
-bytes_or_none (Some bytes) = bytes
-
 abbrev pub unsent_after : Step → List (ℕ × List ℕ) → List (ℕ × List ℕ)
 unsent_after stepped unsent =
     map (λ e. (e.0, bytes_or_none (find nat_cmp e.0 unsent) ++ sent_to e.0 stepped.1)) stepped.0.conns
@@ -43,9 +39,7 @@ pub record Takes (old : Kept) (m : Machine) (c : ℕ) (message : List ℕ) (told
   pub uncrowded : crowded (unsent_after (built_step m (Asked c message)) old.unsent) ≡ None
   pub stands : StandsFor new (built_step m (Asked c message)).0
   pub unsent : new.unsent ≡ unsent_after (built_step m (Asked c message)) old.unsent
-  -- no request of this version makes or removes a connection
-  pub door : told ≡ Same
-  pub ids : map (λ e. e.0) (built_step m (Asked c message)).0.conns ≡ map (λ e. e.0) m.conns
+  pub door : IsDoor m.conns (built_step m (Asked c message)).0.conns told
 
 -- or not, and then nothing changes
 pub record IsHeld (old : Kept) (c : ℕ) (n : ℕ) (new : Kept) : Type 0 where
@@ -83,6 +77,11 @@ abbrev pub Pulled : Kept → ℕ → List ℕ → Kept → List ℕ → Pull →
 Pulled old c into new into_new (pull.Got n) = Pulls old c into n into_new new
 Pulled old c into new into_new pull.Nothing = (find nat_cmp c old.unsent ≡ Some []) × ((new ≡ old) × (into_new ≡ into))
 Pulled old c into new into_new pull.Gone = (find nat_cmp c old.unsent ≡ None) × ((new ≡ old) × (into_new ≡ into))
+
+-- A CONNECTION IS ADDED, without watches and transactions, and nothing is unsent to it
+pub record Adds (old : Kept) (c : ℕ) (spec : ConnSpec) (new : Kept) : Type 0 where
+  pub unsent : new.unsent ≡ put nat_cmp c [] old.unsent
+  pub stands : (m : Machine) → StandsFor old m → StandsFor new (with_conn c (fresh spec) m)
 
 -- A CONNECTION IS LOST, with its unsent bytes; every other one stays as it is
 pub record Drops (old : Kept) (c : ℕ) (new : Kept) : Type 0 where

@@ -5,16 +5,19 @@
 //! [`Daemon::pull`] moves these out in pieces of any length. A contract speaks of each store that the daemon
 //! stands for.
 //!
-//! Today the one connection is domain 0's, with the id 1, and the requests are the seven tree commands outside of
-//! transactions.
+//! Today the requests are the seven tree commands outside of transactions, and the requests on domains.
 #![tactic(auto)]
 
+mod act;
 mod answer;
+mod domains;
+mod peers;
+mod reply;
 mod service;
-mod store;
 #[cfg(test)]
 mod tests;
 
 pub use answer::{Door, Pull, Submit};
+pub use conn_table::{AddErr, ConnSpec, Conns};
 pub use service::Daemon;
 pub use xs_base::NoMemory;

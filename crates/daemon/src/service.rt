@@ -1,23 +1,27 @@
 //! The daemon.
 
-ghost use Rattle.std.specs.Prelude.{◌≡◌, ◌↔◌, ◌<◌, ◌≤◌, ◌∷◌, [], length, take, IfOk, OnOk, OnErr, is_some, option_map};
+ghost use Rattle.std.specs.Prelude.{◌≡◌, ◌↔◌, ◌<◌, ◌≤◌, ◌∷◌, true, ℕ, List, Some, [], length, take, IfOk, OnOk, OnErr, IsErrOf, is_some, option_map};
+ghost use Rattle.std.specs.List.{AllByRecursion};
 ghost use Rattle.std.specs.Ordering.{nat_cmp};
 ghost use Rattle.std.specs.FinMap.{find};
 ghost use Rattle.machine_model.specs.Connections.{ring_of};
 ghost use Rattle.machine_model.specs.Machine.{Machine, new_machine};
-ghost use Rattle.xs_model.specs.Trees.{Tree};
-ghost use Rattle.daemon.specs.Keeps.{StandsFor, connected};
-ghost use Rattle.daemon.specs.Submits.{Submits, Pulled, Drops};
+ghost use Rattle.conn_table.specs.Tables.{IsTable, is_taken, is_socket, count_sockets};
+ghost use Rattle.daemon.specs.Keeps.{StandsFor};
+ghost use Rattle.daemon.specs.Peers.{IsInBounds, IsSound, IsSoundTable, unsent_of};
+ghost use Rattle.daemon.specs.Acts.{kept_of};
+ghost use Rattle.daemon.specs.Submits.{Submits, Pulled, Adds, Drops, held_limit};
 
+use crate::act::answer;
 use crate::answer::{Door, Pull, Submit};
-use crate::store::Store;
-use out_queues::OutQueue;
+use crate::domains::Asker;
+use crate::peers::Peers;
+use crate::reply::{head_of, payload_of, put_reply};
+use conn_table::{AddErr, ConnSpec, Conns};
+use node_tree::Tree;
 use std::alloc::Global;
 use std::marker::Model;
 use xs_base::NoMemory;
-
-/// The id of the one connection.
-const CONTROL: u32 = 1;
 
 /// With so many unsent bytes a connection's requests are not taken.
 const HELD_LIMIT: usize = 32_768;
@@ -31,19 +35,25 @@ const MESSAGE_MAX: usize = 4112;
 #[derive(Drop)]
 pub struct Daemon {
     alloc: Global,
-    store: Store,
-    // What is unsent to domain 0, as long as it is connected.
-    queue: Option<OutQueue>,
+    tree: Tree,
+    peers: Peers,
     // Room for a reply.
     reply: [u8; 4112],
 }
 
 impl Model for Daemon {
-    ghost use Rattle.daemon.specs.Keeps.{Kept, unsent_of};
+    ghost use Rattle.daemon.specs.Keeps.{Kept};
+    ghost use Rattle.daemon.specs.Peers.{IsSound, unsent_of};
 
     ghost Value = { Kept };
 
-    ghost view = { λ daemon. record { tree = daemon.store; unsent = unsent_of daemon.queue } };
+    ghost view = { λ daemon. record {
+      tree = daemon.tree.nodes;
+      specs = daemon.peers.specs;
+      unsent = unsent_of daemon.peers.queues;
+    } };
+
+    ghost invariant = { λ daemon. IsSound daemon.peers };
 }
 
 impl Daemon {
@@ -52,113 +62,131 @@ impl Daemon {
         ensures stands { IfOk result (λ daemon. StandsFor daemon new_machine) }
         ensures unsent { IfOk result (λ daemon. daemon.unsent ≡ (1, []) ∷ []) }
     {
+        let mut peers = Peers::new(alloc);
+        peers.open(0, 0)?;
         Ok(Daemon {
             alloc,
-            store: Store::new(alloc)?,
-            queue: Some(OutQueue::new(alloc)),
+            tree: Tree::new(alloc)?,
+            peers,
             reply: [0; MESSAGE_MAX],
         })
     }
 
-    /// Takes one whole request of a connection: a header and its payload. Refused, nothing has changed.
+    /// Adds a connection, without watches and transactions. It is refused as taken exactly where its id is there or,
+    /// for a ring, a ring connection of the same domain. Refused, nothing has changed.
     ///
-    /// O(length of the message, and what the command costs on the tree, as `tree_ops` says).
+    /// O(log connections), and it moves the connections of higher ids.
+    pub fn add_conn(&mut self, id: u32, spec: ConnSpec) -> Result<(), AddErr>
+        requires id { 1 ≤ id }
+        requires bounds { IsInBounds spec }
+        requires sockets { is_socket spec ≡ true → count_sockets self.old.specs < 65536 }
+        ensures ok { OnOk result (Adds self.old id spec self.new) }
+        ensures err { OnErr result (self.new ≡ self.old) }
+        ensures taken { IsErrOf result AddErr.Taken ↔ (is_taken id spec self.old.specs ≡ true) }
+    {
+        self.peers.add(id, spec)
+    }
+
+    /// Takes one whole request of a connection: a header and its payload. Refused, nothing has changed. Every other
+    /// connection keeps what is unsent to it.
+    ///
+    /// O(log connections + length of the message), and what the request costs: a tree command what `tree_ops` says,
+    /// INTRODUCE and RELEASE a move of the connections of higher ids.
     pub fn submit(&mut self, conn: u32, message: &[u8]) -> Result<Submit, NoMemory>
         requires { 16 ≤ length message.now }
         ensures ok { IfOk result (Submits self.old conn message.now self.new) }
         ensures err { OnErr result (self.new ≡ self.old) }
     {
-        let Some(queue) = &mut self.queue else {
+        let Some(spec) = self.peers.conns().spec(conn) else {
             return Ok(Submit::Gone);
         };
-        if conn != CONTROL {
+        let Some(unsent) = self.peers.unsent(conn) else {
             return Ok(Submit::Gone);
+        };
+        if unsent >= HELD_LIMIT {
+            return Ok(Submit::Held { unsent });
         }
-        submit_to(self.alloc, &mut self.store, queue, &mut self.reply, message)
+        let asker = Asker { conn, spec };
+        submit_to(
+            self.alloc,
+            &mut self.tree,
+            &mut self.peers,
+            &mut self.reply,
+            asker,
+            message,
+        )
     }
 
     /// Moves the first unsent bytes of a connection into `into`, as many as there are and as find room. The rest
-    /// of `into` is as before. It takes no memory. O(bytes moved).
+    /// of `into` is as before. It takes no memory. O(log connections + bytes moved).
     pub fn pull(&mut self, conn: u32, into: &mut [u8]) -> Pull
         requires { 0 < length into.old }
         ensures { Pulled self.old conn into.old self.new into.new result }
     {
-        let Some(queue) = &mut self.queue else {
-            return Pull::Gone;
-        };
-        if conn != CONTROL {
-            return Pull::Gone;
+        match self.peers.pull(conn, into) {
+            None => Pull::Gone,
+            Some(0) => Pull::Nothing,
+            Some(count) => Pull::Got(count),
         }
-        pull_from(queue, into)
     }
 
-    /// How many bytes are unsent to a connection, if it is there. O(1).
+    /// How many bytes are unsent to a connection, if it is there. O(log connections).
     pub fn unsent(&self, conn: u32) -> Option<usize>
         ensures { result ≡ option_map length (find nat_cmp conn self.now.unsent) }
     {
-        match &self.queue {
-            Some(queue) if conn == CONTROL => Some(queue.unsent()),
-            _ => None,
-        }
+        self.peers.unsent(conn)
     }
 
     /// Drops a connection with its unsent bytes, and says whether it was there. Every other connection stays as
-    /// it is. It takes no memory. O(1).
+    /// it is. It takes no memory. It moves the connections of higher ids.
     pub fn drop_conn(&mut self, conn: u32) -> bool
         ensures found { result ≡ is_some (find nat_cmp conn self.old.unsent) }
         ensures after { Drops self.old conn self.new }
     {
-        if conn != CONTROL || self.queue.is_none() {
-            return false;
-        }
-        self.queue = None;
-        true
+        self.peers.remove(conn)
     }
 
-    /// The ring connection of a domain, if it has one. O(1).
+    /// The ring connection of a domain, if it has one. O(log connections).
     pub fn conn_of(&self, domid: u16) -> Option<u32>
         ensures { (m : Machine) → StandsFor self.now m → result ≡ ring_of domid m.conns }
     {
-        if domid == 0 && self.queue.is_some() {
-            Some(CONTROL)
-        } else {
-            None
-        }
+        self.peers.conns().by_domid(domid)
+    }
+
+    /// The table of the connections' other ends. O(1).
+    pub fn conns(&self) -> &Conns
+        ensures value { result.now ≡ self.now.specs }
+        ensures sound { IsSoundTable self.now.specs }
+        ensures few { length self.now.specs ≤ 98288 }
+    {
+        self.peers.conns()
     }
 }
 
-/// Takes one whole request of domain 0, to which these bytes are unsent. All memory for what it is answered is
-/// taken before the store changes.
+/// Takes one whole request of a connection that is there and has few unsent bytes. All memory for what it is answered is
+/// taken before anything changes.
 fn submit_to(
     alloc: Global,
-    store: &mut Store,
-    queue: &mut OutQueue,
+    tree: &mut Tree,
+    peers: &mut Peers,
     reply: &mut [u8; 4112],
+    asker: Asker,
     message: &[u8],
 ) -> Result<Submit, NoMemory>
-    requires { 16 ≤ length message.now }
-    ensures ok { IfOk result (Submits (connected store.old queue.old.bytes) 1 message.now (connected store.new queue.new.bytes)) }
-    ensures err { OnErr result ((store.new ≡ store.old) × (queue.new.bytes ≡ queue.old.bytes)) }
+    requires message { 16 ≤ length message.now }
+    requires sound { IsSound peers.old }
+    requires there { find nat_cmp asker.conn peers.old.specs ≡ Some asker.spec }
+    requires few { (bytes : List ℕ) → find nat_cmp asker.conn (unsent_of peers.old.queues) ≡ Some bytes → length bytes < held_limit }
+    ensures ok { IfOk result (Submits (kept_of tree.old.nodes peers.old) asker.conn message.now (kept_of tree.new.nodes peers.new)) }
+    ensures sound { IsSound peers.new }
+    ensures err { OnErr result (kept_of tree.new.nodes peers.new ≡ kept_of tree.old.nodes peers.old) }
 {
-    let unsent = queue.unsent();
-    if unsent >= HELD_LIMIT {
-        return Ok(Submit::Held { unsent });
-    }
-    queue.reserve(MESSAGE_MAX)?;
-    let len = store.serve(alloc, message, reply)?;
-    queue.push(first(reply, len));
-    Ok(Submit::Done(Door::Same))
-}
-
-/// Moves the first bytes that are unsent to domain 0.
-fn pull_from(queue: &mut OutQueue, into: &mut [u8]) -> Pull
-    requires { 0 < length into.old }
-    ensures { (tree : Tree) → Pulled (connected tree queue.old.bytes) 1 into.old (connected tree queue.new.bytes) into.new result }
-{
-    match queue.pull(into) {
-        0 => Pull::Nothing,
-        count => Pull::Got(count),
-    }
+    peers.reserve(asker.conn, MESSAGE_MAX)?;
+    let head = head_of(message);
+    let answer = answer(alloc, tree, peers, asker, head, payload_of(message))?;
+    let len = put_reply(head, &answer.reply, reply);
+    peers.push(asker.conn, first(reply, len));
+    Ok(Submit::Done(answer.door))
 }
 
 /// The first so many bytes of a reply.

@@ -1,12 +1,33 @@
-//! One connection's way through the daemon, by hand.
+//! Connections' ways through the daemon, by hand.
 
-use crate::{Daemon, Door, Pull, Submit};
+ghost use Rattle.std.specs.Prelude.{◌≡◌, None};
+
+use crate::{AddErr, ConnSpec, Daemon, Door, Pull, Submit};
 use std::test::Fail;
 
 /// A READ of the path `/a`, which is absent.
 const READ: [u8; 19] = [
     2, 0, 0, 0, 1, 0, 0, 0, 0, 0, 0, 0, 3, 0, 0, 0, b'/', b'a', 0,
 ];
+
+/// INTRODUCE of domain 5, with the event channel 3.
+const INTRODUCE: [u8; 22] = [
+    8, 0, 0, 0, 1, 0, 0, 0, 0, 0, 0, 0, 6, 0, 0, 0, b'5', 0, b'1', 0, b'3', 0,
+];
+
+/// RELEASE of domain 5.
+const RELEASE: [u8; 18] = [9, 0, 0, 0, 1, 0, 0, 0, 0, 0, 0, 0, 2, 0, 0, 0, b'5', 0];
+
+/// The ring of a domain, without a target and with event channel 3.
+fn ring(domid: u16) -> ConnSpec
+    ensures { result ≡ ConnSpec.Ring domid None 3 }
+{
+    ConnSpec::Ring {
+        domid,
+        target: None,
+        evtchn: 3,
+    }
+}
 
 #[test]
 fn answers_and_drops_a_connection(rt: HostRuntime) -> Result<(), Fail> {
@@ -24,5 +45,37 @@ fn answers_and_drops_a_connection(rt: HostRuntime) -> Result<(), Fail> {
     assert_eq!(rt; (daemon.drop_conn(1), daemon.drop_conn(1)), (true, false));
     assert_eq!(rt; daemon.conn_of(0), None);
     assert_eq!(rt; daemon.pull(1, &mut into), Pull::Gone);
+    Ok(())
+}
+
+#[test]
+fn makes_and_removes_a_ring(rt: HostRuntime) -> Result<(), Fail> {
+    let mut daemon = Daemon::new(rt.alloc())?;
+    let mut into = [0; 23];
+    assert_eq!(rt;
+        daemon.submit(1, &INTRODUCE)?,
+        Submit::Done(Door::Opened(5))
+    );
+    assert_eq!(rt; daemon.conn_of(5), Some(2));
+    assert_eq!(rt; daemon.submit(1, &INTRODUCE)?, Submit::Done(Door::Same));
+    assert_eq!(rt; daemon.conns().len(), 2);
+    assert_eq!(rt; daemon.submit(2, &RELEASE)?, Submit::Done(Door::Same));
+    assert_eq!(rt; daemon.pull(2, &mut into), Pull::Got(23));
+    assert_eq!(rt; &into[16..], b"EACCES\0".as_slice());
+    assert_eq!(rt; daemon.submit(2, &READ)?, Submit::Done(Door::Same));
+    assert_eq!(rt; daemon.submit(1, &RELEASE)?, Submit::Done(Door::Closed(5)));
+    assert_eq!(rt; (daemon.conn_of(5), daemon.unsent(2)), (None, None));
+    assert_eq!(rt; daemon.unsent(1), Some(57));
+    Ok(())
+}
+
+#[test]
+fn adds_an_id_and_a_domain_once(rt: HostRuntime) -> Result<(), Fail> {
+    let mut daemon = Daemon::new(rt.alloc())?;
+    assert_eq!(rt; daemon.add_conn(4, ring(7)), Ok(()));
+    assert_eq!(rt; daemon.add_conn(4, ring(8)), Err(AddErr::Taken));
+    assert_eq!(rt; daemon.add_conn(2, ring(7)), Err(AddErr::Taken));
+    assert_eq!(rt; daemon.unsent(4), Some(0));
+    assert_eq!(rt; (daemon.conn_of(7), daemon.conn_of(8)), (Some(4), None));
     Ok(())
 }

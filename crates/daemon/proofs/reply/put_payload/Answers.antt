@@ -1,7 +1,7 @@
 use Rattle.std.proofs.Common.{refl, length}
 use Rattle.xs_model.specs.declared.message.Header.{Header}
 use Rattle.daemon.proofs.ReplyLemmas.{written_is_reply}
-use Rattle.daemon.proofs.store.put_payload.Goals as goal
+use Rattle.daemon.proofs.reply.put_payload.Goals as goal
 
 pub returns-clause-whole : goal.returns-clause-whole
 returns-clause-whole c =

@@ -1,0 +1,245 @@
+-- Connections with what is unsent to each stay sound.
+use Rattle.std.proofs.Common.{◌≡◌, ℕ, ◌+◌, ◌<◌, ◌≤◌, Bool, true, false, cond, List, [], ◌∷◌, ◌++◌, length, map, drop, Some, None, is_some, refl, sym, ap, subst, ◌∙◌, arith, le_trans, le_refl, length-drop}
+use Rattle.std.specs.List.{AllByRecursion}
+use Rattle.std.specs.Option.{option_map}
+use Rattle.std.specs.declared.cmp.Ordering.TheVariants.{Less, Equal, Greater}
+use Rattle.std.specs.Ordering.{nat_cmp}
+use Rattle.std.specs.FinMap.{find, put, is_sorted, nat_cmp-IsAntisymmetric}
+use Rattle.std.specs.FinMap.Entries.{where_key, by_order}
+use Rattle.xs_model.proofs.Maps.{from_Some, found_map, sorted_map, all_put, all_where, all_found, keys_put, keys_where, keys_found}
+use Rattle.machine_model.specs.declared.ConnSpec.{ConnSpec}
+use Rattle.machine_model.specs.declared.ConnSpec.TheVariants.{Ring, Socket}
+use Rattle.machine_model.specs.Connections.{with_evtchn, with_target}
+use Rattle.out_queues.specs.Queues.{Queue}
+use Rattle.conn_table.specs.Tables.{Specs, IsTable, IsDomain, is_socket, count_sockets}
+use Rattle.conn_table.proofs.SmallLemmas.{tables_are_small}
+use Rattle.daemon.specs.Peers.{Connected, unsent_of, IsInBounds, IsSoundTable, IsSound, crowd_limit, HasRoom, Moves}
+use Rattle.daemon.proofs.KeepsLemmas.{put_map, keys_map, same_put, same_where, same_rising, found_itself, put_again}
+
+-- UNSENT BYTES by connection
+pub unsent_put : (c : ℕ) (queue : Queue) (queues : List (ℕ × Queue)) (bytes : List ℕ) → queue.bytes ≡ bytes → unsent_of (put nat_cmp c queue queues) ≡ put nat_cmp c bytes (unsent_of queues)
+unsent_put c queue queues bytes is = put_map (λ q. q.bytes) c queue queues ∙ ap (λ b. put nat_cmp c b (unsent_of queues)) is
+
+pub unsent_found : (c : ℕ) (queues : List (ℕ × Queue)) → find nat_cmp c (unsent_of queues) ≡ option_map (λ q. q.bytes) (find nat_cmp c queues)
+unsent_found c queues = found_map nat_cmp (λ (q : Queue). q.bytes) c queues
+
+pub unsent_rising : (queues : List (ℕ × Queue)) → is_sorted nat_cmp (unsent_of queues) ≡ is_sorted nat_cmp queues
+unsent_rising queues = sorted_map nat_cmp (λ (q : Queue). q.bytes) queues
+
+-- a queue with the bytes of the one that is there
+pub unsent_kept : (c : ℕ) (old new : Queue) (queues : List (ℕ × Queue)) → is_sorted nat_cmp queues ≡ true → find nat_cmp c queues ≡ Some old → new.bytes ≡ old.bytes → unsent_of (put nat_cmp c new queues) ≡ unsent_of queues
+unsent_kept c old new queues rising there is =
+    unsent_put c new queues old.bytes is
+    ∙ put_again c old.bytes (unsent_of queues) (unsent_rising queues ∙ rising) (unsent_found c queues ∙ ap (option_map (λ q. q.bytes)) there)
+
+-- a message more
+pub unsent_pushed : (c : ℕ) (old new : Queue) (message : List ℕ) (queues : List (ℕ × Queue)) → Some old ≡ find nat_cmp c queues → new.bytes ≡ old.bytes ++ message
+    → (bytes : List ℕ) → find nat_cmp c (unsent_of queues) ≡ Some bytes → unsent_of (put nat_cmp c new queues) ≡ put nat_cmp c (bytes ++ message) (unsent_of queues)
+unsent_pushed c old new message queues there is bytes found =
+    let had : old.bytes ≡ bytes = from_Some (ap (option_map (λ (q : Queue). q.bytes)) there ∙ sym (unsent_found c queues) ∙ found) in
+    unsent_put c new queues (bytes ++ message) (is ∙ ap (λ b. b ++ message) had)
+
+pub unsent_absent : (c : ℕ) (queues : List (ℕ × Queue)) → None ≡ find nat_cmp c queues → find nat_cmp c (unsent_of queues) ≡ None
+unsent_absent c queues absent = unsent_found c queues ∙ ap (option_map (λ (q : Queue). q.bytes)) (sym absent)
+
+-- room that was taken
+pub room_put : (c n : ℕ) (new : Queue) (queues : List (ℕ × Queue)) → n ≤ new.spare → HasRoom c n (put nat_cmp c new queues)
+room_put c n new queues room = λ queue there. subst (λ (q : Queue). n ≤ q.spare) (from_Some (sym (found_itself c new queues) ∙ there)) room
+
+-- SOCKETS: at most one more, and none with a ring
+count_put : (c : ℕ) (spec : ConnSpec) (specs : Specs) → count_sockets (put nat_cmp c spec specs) ≤ cond (is_socket spec) 1 0 + count_sockets specs
+count_put c spec [] = one (is_socket spec)
+  where
+    one : (b : Bool) → cond b (0 + 1) 0 ≤ cond b 1 0 + 0
+    one true = omega arith
+    one false = omega arith
+count_put c spec (e ∷ es) =
+    let n = count_sockets es in
+    let rest = count_put c spec es in
+    elim (nat_cmp c e.0) as (λ o. count_sockets (by_order o ((c, spec) ∷ e ∷ es) ((e.0, spec) ∷ es) (e ∷ put nat_cmp c spec es)) ≤ cond (is_socket spec) 1 0 + cond (is_socket e.1) (n + 1) n) [
+      | Less ↦ before (is_socket spec) (is_socket e.1) n
+      | Equal ↦ instead (is_socket spec) (is_socket e.1) n
+      | Greater ↦ behind (is_socket spec) (is_socket e.1) n (count_sockets (put nat_cmp c spec es)) rest
+    ]
+  where
+    before : (a b : Bool) (n : ℕ) → cond a (cond b (n + 1) n + 1) (cond b (n + 1) n) ≤ cond a 1 0 + cond b (n + 1) n
+    before true b n = omega arith
+    before false b n = omega arith
+
+    instead : (a b : Bool) (n : ℕ) → cond a (n + 1) n ≤ cond a 1 0 + cond b (n + 1) n
+    instead true true n = omega arith
+    instead true false n = omega arith
+    instead false true n = omega arith
+    instead false false n = omega arith
+
+    behind : (a b : Bool) (n m : ℕ) → m ≤ cond a 1 0 + n → cond b (m + 1) m ≤ cond a 1 0 + cond b (n + 1) n
+    behind a true n m h = omega arith
+    behind a false n m h = omega arith
+
+count_where : (p : ℕ → Bool) (specs : Specs) → count_sockets (where_key nat_cmp p specs) ≤ count_sockets specs
+count_where p [] = le_refl 0
+count_where p (e ∷ es) =
+    let n = count_sockets es in
+    let rest = count_where p es in
+    elim (p e.0) as (λ b. count_sockets (cond b (e ∷ where_key nat_cmp p es) (where_key nat_cmp p es)) ≤ cond (is_socket e.1) (n + 1) n) [
+      | true ↦ same (is_socket e.1) n (count_sockets (where_key nat_cmp p es)) rest
+      | false ↦ fewer (is_socket e.1) n (count_sockets (where_key nat_cmp p es)) rest
+    ]
+  where
+    same : (b : Bool) (n m : ℕ) → m ≤ n → cond b (m + 1) m ≤ cond b (n + 1) n
+    same true n m h = omega arith
+    same false n m h = omega arith
+
+    fewer : (b : Bool) (n m : ℕ) → m ≤ n → m ≤ cond b (n + 1) n
+    fewer true n m h = omega arith
+    fewer false n m h = omega arith
+
+-- THE TABLE
+module _ (specs : Specs) (sound : IsSoundTable specs) where
+  pub table_put : (c : ℕ) (spec : ConnSpec) → IsTable (put nat_cmp c spec specs) → 1 ≤ c → IsInBounds spec → (is_socket spec ≡ true → count_sockets specs < 65536) → IsSoundTable (put nat_cmp c spec specs)
+  table_put c spec table positive bounds few = record {
+    table = table;
+    ids = keys_put nat_cmp (λ i. 1 ≤ i) c spec specs positive sound.ids;
+    bounds = all_put nat_cmp IsInBounds c spec specs bounds sound.bounds;
+    sockets = le_trans (count_put c spec specs) (within (is_socket spec) few);
+  }
+    where
+      within : (b : Bool) → (b ≡ true → count_sockets specs < 65536) → cond b 1 0 + count_sockets specs ≤ 65536
+      within true h = let few_more = h refl in omega arith
+      within false h = omega (arith, sound.sockets)
+
+  pub table_without : (p : ℕ → Bool) → IsTable (where_key nat_cmp p specs) → IsSoundTable (where_key nat_cmp p specs)
+  table_without p table = record {
+    table = table;
+    ids = keys_where nat_cmp (λ i. 1 ≤ i) p specs sound.ids;
+    bounds = all_where nat_cmp IsInBounds p specs sound.bounds;
+    sockets = le_trans (count_where p specs) sound.sockets;
+  }
+
+  -- another end of the same connection
+  table_changed : (change : ConnSpec → ConnSpec) → ((fd : ℕ) → change (Socket fd) ≡ Socket fd) → ((spec : ConnSpec) → IsInBounds spec → IsInBounds (change spec)) → ((spec : ConnSpec) → is_socket (change spec) ≡ is_socket spec)
+      → (c : ℕ) (spec : ConnSpec) → find nat_cmp c specs ≡ Some spec → IsTable (put nat_cmp c (change spec) specs) → IsSoundTable (put nat_cmp c (change spec) specs)
+  table_changed change kept bounds alike c (Socket fd) there table =
+      subst IsSoundTable (sym (ap (λ spec. put nat_cmp c spec specs) (kept fd) ∙ put_again c (Socket fd) specs sound.table.rising there)) sound
+  table_changed change kept bounds alike c (Ring domid target evtchn) there table =
+      let old : ConnSpec = Ring domid target evtchn in
+      table_put c (change old) table (keys_found nat_cmp (λ i. 1 ≤ i) nat_cmp-IsAntisymmetric c specs old sound.ids there)
+      (bounds old (all_found nat_cmp IsInBounds c specs old sound.bounds there)) (λ is. absurd (never (sym (alike old) ∙ is)))
+    where
+      never : false ≡ true → ⊥
+      never e = cc
+
+-- a ring that has another event channel, or another target
+pub evtchn_changed : (specs : Specs) → IsSoundTable specs → (evtchn c : ℕ) (spec : ConnSpec) → find nat_cmp c specs ≡ Some spec → IsTable (put nat_cmp c (with_evtchn evtchn spec) specs) → IsSoundTable (put nat_cmp c (with_evtchn evtchn spec) specs)
+evtchn_changed specs sound evtchn c spec there table = table_changed specs sound (with_evtchn evtchn) (λ fd. refl) bounds alike c spec there table
+  where
+    bounds : (spec : ConnSpec) → IsInBounds spec → IsInBounds (with_evtchn evtchn spec)
+    bounds (Ring domid target old) h = h
+    bounds (Socket fd) h = h
+
+    alike : (spec : ConnSpec) → is_socket (with_evtchn evtchn spec) ≡ is_socket spec
+    alike (Ring domid target old) = refl
+    alike (Socket fd) = refl
+
+pub target_changed : (specs : Specs) → IsSoundTable specs → (target c : ℕ) → target ≤ 32751 → (spec : ConnSpec) → find nat_cmp c specs ≡ Some spec → IsTable (put nat_cmp c (with_target target spec) specs) → IsSoundTable (put nat_cmp c (with_target target spec) specs)
+target_changed specs sound target c domain spec there table = table_changed specs sound (with_target target) (λ fd. refl) bounds alike c spec there table
+  where
+    bounds : (spec : ConnSpec) → IsInBounds spec → IsInBounds (with_target target spec)
+    bounds (Ring domid old evtchn) h = (h.0, domain)
+    bounds (Socket fd) h = h
+
+    alike : (spec : ConnSpec) → is_socket (with_target target spec) ≡ is_socket spec
+    alike (Ring domid old evtchn) = refl
+    alike (Socket fd) = refl
+
+-- there is a free id for one connection more
+domains : (specs : Specs) → AllByRecursion (λ e. IsInBounds e.1) specs → AllByRecursion (λ e. IsDomain e.1) specs
+domains [] h = tt
+domains ((id, Ring domid target evtchn) ∷ es) h = (h.0.0, domains es h.1)
+domains ((id, Socket fd) ∷ es) h = (tt, domains es h.1)
+
+pub table_is_small : (specs : Specs) → IsSoundTable specs → length specs ≤ 98288
+table_is_small specs sound = let small = tables_are_small specs sound.table (domains specs sound.bounds) in omega (arith, small.most, sound.sockets)
+
+-- THE CONNECTIONS WITH THEIR QUEUES
+short_queues : (queues : List (ℕ × Queue)) → AllByRecursion (λ e. length e.1 ≤ crowd_limit) (unsent_of queues) → AllByRecursion (λ e. length e.1.bytes ≤ crowd_limit) queues
+short_queues [] h = tt
+short_queues (e ∷ es) h = (h.0, short_queues es h.1)
+
+pub short_unsent : (queues : List (ℕ × Queue)) → AllByRecursion (λ e. length e.1.bytes ≤ crowd_limit) queues → AllByRecursion (λ e. length e.1 ≤ crowd_limit) (unsent_of queues)
+short_unsent [] h = tt
+short_unsent (e ∷ es) h = (h.0, short_unsent es h.1)
+
+pub unsent_keys : (queues : List (ℕ × Queue)) → map (λ e. e.0) (unsent_of queues) ≡ map (λ e. e.0) queues
+unsent_keys queues = keys_map (λ (q : Queue). q.bytes) queues
+
+-- by the bytes that are unsent
+pub sound_by : (peers : Connected) (unsent : List (ℕ × List ℕ)) → unsent_of peers.queues ≡ unsent → IsSoundTable peers.specs → map (λ e. e.0) unsent ≡ map (λ e. e.0) peers.specs → AllByRecursion (λ e. length e.1 ≤ crowd_limit) unsent → IsSound peers
+sound_by peers unsent is table ids short = record {
+  table = table;
+  ids = sym (unsent_keys peers.queues) ∙ ap (map (λ e. e.0)) is ∙ ids;
+  short = short_queues peers.queues (subst (AllByRecursion (λ e. length e.1 ≤ crowd_limit)) (sym is) short);
+}
+
+module _ (peers : Connected) (sound : IsSound peers) where
+  pub ids_unsent : map (λ e. e.0) (unsent_of peers.queues) ≡ map (λ e. e.0) peers.specs
+  ids_unsent = unsent_keys peers.queues ∙ sound.ids
+
+  -- the same bytes
+  pub sound_same : (new : Connected) → new.specs ≡ peers.specs → unsent_of new.queues ≡ unsent_of peers.queues → IsSound new
+  sound_same new specs bytes =
+      sound_by new (unsent_of peers.queues) bytes (subst IsSoundTable (sym specs) sound.table) (ids_unsent ∙ ap (map (λ e. e.0)) (sym specs)) (short_unsent peers.queues sound.short)
+
+  -- other bytes of one connection
+  pub sound_put : (new : Connected) (c : ℕ) (bytes old : List ℕ) → find nat_cmp c (unsent_of peers.queues) ≡ Some old → length bytes ≤ crowd_limit → new.specs ≡ peers.specs → unsent_of new.queues ≡ put nat_cmp c bytes (unsent_of peers.queues) → IsSound new
+  sound_put new c bytes old there fits specs is =
+      let unsent = unsent_of peers.queues in
+      let rising = same_rising unsent peers.specs ids_unsent ∙ sound.table.table.rising in
+      sound_by new (put nat_cmp c bytes unsent) is (subst IsSoundTable (sym specs) sound.table)
+      (same_put unsent unsent refl c bytes old ∙ ap (map (λ e. e.0)) (put_again c old unsent rising there) ∙ ids_unsent ∙ ap (map (λ e. e.0)) (sym specs))
+      (all_put nat_cmp (λ b. length b ≤ crowd_limit) c bytes unsent fits (short_unsent peers.queues sound.short))
+
+  -- without the first of them
+  pub sound_pulled : (new : Connected) (c : ℕ) (into into_new : List ℕ) (n : ℕ) → new.specs ≡ peers.specs → Moves peers.queues c into new.queues into_new n → IsSound new
+  sound_pulled new c into into_new n specs moved =
+      let fits = all_found nat_cmp (λ (b : List ℕ). length b ≤ crowd_limit) c (unsent_of peers.queues) moved.bytes (short_unsent peers.queues sound.short) moved.there in
+      sound_put new c (drop n moved.bytes) moved.bytes moved.there (omega (arith, length-drop n moved.bytes, fits)) specs moved.unsent
+
+  -- a connection more, to which nothing is unsent
+  pub sound_added : (new : Connected) (c : ℕ) (spec : ConnSpec) → IsSoundTable new.specs → new.specs ≡ put nat_cmp c spec peers.specs → unsent_of new.queues ≡ put nat_cmp c [] (unsent_of peers.queues) → IsSound new
+  sound_added new c spec table specs is =
+      sound_by new (put nat_cmp c [] (unsent_of peers.queues)) is table
+      (same_put (unsent_of peers.queues) peers.specs ids_unsent c [] spec ∙ ap (map (λ e. e.0)) (sym specs))
+      (all_put nat_cmp (λ b. length b ≤ crowd_limit) c [] (unsent_of peers.queues) (omega arith) (short_unsent peers.queues sound.short))
+
+  -- without one
+  pub sound_without : (p : ℕ → Bool) → IsTable (where_key nat_cmp p peers.specs) → IsSound (record { specs = where_key nat_cmp p peers.specs; queues = where_key nat_cmp p peers.queues })
+  sound_without p table = record {
+    table = table_without peers.specs sound.table p table;
+    ids = same_where peers.queues peers.specs sound.ids p;
+    short = all_where nat_cmp (λ (q : Queue). length q.bytes ≤ crowd_limit) p peers.queues sound.short;
+  }
+
+  -- with another end of one of them
+  pub sound_changed : (c : ℕ) (old spec : ConnSpec) → find nat_cmp c peers.specs ≡ Some old → IsSoundTable (put nat_cmp c spec peers.specs) → IsSound (record { specs = put nat_cmp c spec peers.specs; queues = peers.queues })
+  sound_changed c old spec there table = record {
+    table = table;
+    ids = sound.ids ∙ ap (map (λ e. e.0)) (sym (put_again c old peers.specs sound.table.table.rising there)) ∙ same_put peers.specs peers.specs refl c old spec;
+    short = sound.short;
+  }
+
+  pub evtchn_sound : (evtchn c : ℕ) (old spec : ConnSpec) (new : Specs) → find nat_cmp c peers.specs ≡ Some old → spec ≡ with_evtchn evtchn old → new ≡ put nat_cmp c spec peers.specs → IsTable new → IsSound (record { specs = new; queues = peers.queues })
+  evtchn_sound evtchn c old spec new there is puts table =
+      let puts_it : new ≡ put nat_cmp c (with_evtchn evtchn old) peers.specs = puts ∙ ap (λ s. put nat_cmp c s peers.specs) is in
+      subst (λ n. IsSound (record { specs = n; queues = peers.queues })) (sym puts_it)
+      (sound_changed c old (with_evtchn evtchn old) there (evtchn_changed peers.specs sound.table evtchn c old there (subst IsTable puts_it table)))
+
+  pub target_sound : (target c : ℕ) → target ≤ 32751 → (old spec : ConnSpec) (new : Specs) → find nat_cmp c peers.specs ≡ Some old → spec ≡ with_target target old → new ≡ put nat_cmp c spec peers.specs → IsTable new → IsSound (record { specs = new; queues = peers.queues })
+  target_sound target c domain old spec new there is puts table =
+      let puts_it : new ≡ put nat_cmp c (with_target target old) peers.specs = puts ∙ ap (λ s. put nat_cmp c s peers.specs) is in
+      subst (λ n. IsSound (record { specs = n; queues = peers.queues })) (sym puts_it)
+      (sound_changed c old (with_target target old) there (target_changed peers.specs sound.table target c domain old there (subst IsTable puts_it table)))
+
+-- what was set, where the connection was found
+pub set_there : (found : Bool) (c : ℕ) (old spec : ConnSpec) (specs new : Specs) → find nat_cmp c specs ≡ Some old → found ≡ is_some (find nat_cmp c specs) → new ≡ cond found (put nat_cmp c spec specs) specs → new ≡ put nat_cmp c spec specs
+set_there found c old spec specs new there is after = after ∙ ap (λ b. cond b (put nat_cmp c spec specs) specs) (is ∙ ap is_some there)

@@ -1,0 +1,235 @@
+//! The connections, with what is unsent to each.
+
+ghost use Rattle.std.specs.Prelude.{◌≡◌, ◌≤◌, ◌<◌, ◌==◌, not, true, false, List, ℕ, [], ◌++◌, length, map, Some, None, is_some, OnOk, OnErr, IsErrOf, ◌↔◌};
+ghost use Rattle.std.specs.Option.{option_map};
+ghost use Rattle.std.specs.Ordering.{nat_cmp};
+ghost use Rattle.std.specs.FinMap.{find, put};
+ghost use Rattle.std.specs.FinMap.Entries.{where_key};
+ghost use Rattle.out_queues.specs.Queues.{Queue, whole_behind};
+ghost use Rattle.machine_model.specs.Connections.{with_evtchn, with_target, fresh, least_free};
+ghost use Rattle.conn_table.specs.Tables.{IsTable, ring_id, ring_domid, is_taken, has_its_ring, is_socket, count_sockets};
+ghost use Rattle.daemon.specs.Peers.{Connected, HasRoom, IsInBounds, IsSound, PulledFrom, unsent_of};
+
+use conn_table::{AddErr, ConnSpec, Conns};
+use id_map::IdMap;
+use out_queues::OutQueue;
+use std::alloc::Global;
+use std::marker::Model;
+use xs_base::NoMemory;
+
+/// The connections: what stands at the other end of each, and what is still to be sent to it.
+///
+/// Contracts see the two tables by the connections' ids. That they belong together (`IsSound`) is a condition of the
+/// calls that edit them.
+#[derive(Drop)]
+pub struct Peers {
+    alloc: Global,
+    conns: Conns,
+    rows: IdMap<OutQueue>,
+}
+
+impl Model for Peers {
+    ghost use Rattle.daemon.specs.Peers.{Connected};
+
+    ghost Value = { Connected };
+
+    ghost view = { λ peers. record { specs = peers.conns; queues = peers.rows.entries } };
+}
+
+impl Peers {
+    /// No connections. It takes no memory.
+    pub fn new(alloc: Global) -> Peers
+        ensures specs { result.specs ≡ [] }
+        ensures queues { result.queues ≡ [] }
+    {
+        Peers {
+            alloc,
+            conns: Conns::empty(alloc),
+            rows: IdMap::new(alloc),
+        }
+    }
+
+    /// The table of the other ends. O(1).
+    pub fn conns(&self) -> &Conns
+        ensures { result.now ≡ self.now.specs }
+    {
+        &self.conns
+    }
+
+    /// How many bytes are unsent to a connection, if it is there. O(log connections).
+    pub fn unsent(&self, conn: u32) -> Option<usize>
+        ensures { result ≡ option_map (λ queue. length queue.bytes) (find nat_cmp conn self.now.queues) }
+    {
+        self.rows.get(conn).map(OutQueue::unsent)
+    }
+
+    /// Adds a connection to which nothing is unsent. Refused, nothing has changed. It moves the connections of higher
+    /// ids.
+    pub fn add(&mut self, conn: u32, spec: ConnSpec) -> Result<(), AddErr>
+        ensures specs { OnOk result (self.new.specs ≡ put nat_cmp conn spec self.old.specs) }
+        ensures bytes { OnOk result (unsent_of self.new.queues ≡ put nat_cmp conn [] (unsent_of self.old.queues)) }
+        ensures others { OnOk result ((other : ℕ) → (other == conn) ≡ false → find nat_cmp other self.new.queues ≡ find nat_cmp other self.old.queues) }
+        ensures err { OnErr result (self.new ≡ self.old) }
+        ensures taken { IsErrOf result AddErr.Taken ↔ (is_taken conn spec self.old.specs ≡ true) }
+        ensures table { OnOk result (IsTable self.new.specs) }
+        ensures sound { OnOk result (IsSound self.old → 1 ≤ conn → IsInBounds spec → (is_socket spec ≡ true → count_sockets self.old.specs < 65536) → IsSound self.new) }
+    {
+        if is_taken(&self.conns, conn, spec) {
+            return Err(AddErr::Taken);
+        }
+        self.rows.reserve(1)?;
+        self.conns.add(conn, spec)?;
+        self.rows.put(conn, OutQueue::new(self.alloc));
+        Ok(())
+    }
+
+    /// Adds the ring connection of a domain that has none, under the least id that is free, with an event channel and
+    /// without a target. Refused, nothing has changed.
+    pub fn open(&mut self, domid: u16, evtchn: u32) -> Result<(), NoMemory>
+        requires sound { IsSound self.old }
+        requires none { ring_id domid self.old.specs ≡ None }
+        ensures specs { OnOk result (self.new.specs ≡ put nat_cmp (least_free self.old.specs) (ConnSpec.Ring domid None evtchn) self.old.specs) }
+        ensures bytes { OnOk result (unsent_of self.new.queues ≡ put nat_cmp (least_free self.old.specs) [] (unsent_of self.old.queues)) }
+        ensures others { OnOk result ((other : ℕ) → (other == least_free self.old.specs) ≡ false → find nat_cmp other self.new.queues ≡ find nat_cmp other self.old.queues) }
+        ensures err { OnErr result (self.new ≡ self.old) }
+        ensures table { IsTable self.new.specs }
+        ensures sound { OnOk result (domid ≤ 32751 → IsSound self.new) }
+    {
+        let spec = ConnSpec::Ring {
+            domid,
+            target: None,
+            evtchn,
+        };
+        let conn = self.conns.least_free();
+        match self.add(conn, spec) {
+            Ok(()) => Ok(()),
+            Err(AddErr::Taken) => unreachable!(),
+            Err(AddErr::NoMemory) => Err(NoMemory),
+        }
+    }
+
+    /// Gives a ring connection another event channel. O(log connections).
+    pub fn set_evtchn(&mut self, conn: u32, evtchn: u32)
+        ensures specs { (spec : ConnSpec) → find nat_cmp conn self.old.specs ≡ Some spec → self.new.specs ≡ put nat_cmp conn (with_evtchn evtchn spec) self.old.specs }
+        ensures absent { find nat_cmp conn self.old.specs ≡ None → self.new ≡ self.old }
+        ensures queues { self.new.queues ≡ self.old.queues }
+        ensures table { IsTable self.new.specs }
+        ensures sound { IsSound self.old → IsSound self.new }
+    {
+        if let Some(spec) = self.conns.spec(conn) {
+            self.conns.set(conn, with_evtchn(evtchn, spec));
+        }
+    }
+
+    /// Gives a ring connection a target. O(log connections).
+    pub fn set_target(&mut self, conn: u32, target: u16)
+        ensures specs { (spec : ConnSpec) → find nat_cmp conn self.old.specs ≡ Some spec → self.new.specs ≡ put nat_cmp conn (with_target target spec) self.old.specs }
+        ensures absent { find nat_cmp conn self.old.specs ≡ None → self.new ≡ self.old }
+        ensures queues { self.new.queues ≡ self.old.queues }
+        ensures table { IsTable self.new.specs }
+        ensures sound { IsSound self.old → target ≤ 32751 → IsSound self.new }
+    {
+        if let Some(spec) = self.conns.spec(conn) {
+            self.conns.set(conn, with_target(target, spec));
+        }
+    }
+
+    /// Removes a connection with its unsent bytes, and says whether it was there. Every other one stays as it is. It
+    /// takes no memory, and moves the connections of higher ids.
+    pub fn remove(&mut self, conn: u32) -> bool
+        ensures found { result ≡ is_some (find nat_cmp conn self.old.specs) }
+        ensures specs { self.new.specs ≡ where_key nat_cmp (λ key. not (conn == key)) self.old.specs }
+        ensures queues { self.new.queues ≡ where_key nat_cmp (λ key. not (conn == key)) self.old.queues }
+        ensures table { IsTable self.new.specs }
+        ensures sound { IsSound self.old → IsSound self.new }
+    {
+        self.rows.remove(conn);
+        self.conns.remove(conn)
+    }
+
+    /// Takes memory for so many bytes more to a connection. What is unsent is as before.
+    pub fn reserve(&mut self, conn: u32, bytes: usize) -> Result<(), NoMemory>
+        ensures ok { OnOk result (HasRoom conn bytes self.new.queues) }
+        ensures specs { self.new.specs ≡ self.old.specs }
+        ensures bytes { unsent_of self.new.queues ≡ unsent_of self.old.queues }
+        ensures sound { IsSound self.old → IsSound self.new }
+    {
+        let Some(queue) = self.rows.get_mut(conn) else {
+            return Ok(());
+        };
+        queue.reserve(bytes)
+    }
+
+    /// Appends a whole message to what is unsent to a connection, for which there is memory. O(its length).
+    pub fn push(&mut self, conn: u32, message: &[u8])
+        requires whole { whole_behind 0 message.now ≡ true }
+        requires room { HasRoom conn (length message.now) self.old.queues }
+        ensures specs { self.new.specs ≡ self.old.specs }
+        ensures bytes { (bytes : List ℕ) → find nat_cmp conn (unsent_of self.old.queues) ≡ Some bytes
+            → unsent_of self.new.queues ≡ put nat_cmp conn (bytes ++ message.now) (unsent_of self.old.queues) }
+        ensures absent { find nat_cmp conn self.old.queues ≡ None → self.new ≡ self.old }
+    {
+        let Some(queue) = self.rows.get_mut(conn) else {
+            return;
+        };
+        queue.push(message)
+    }
+
+    /// Moves the first unsent bytes of a connection into `into`, and says how many; none where it is not there. O(bytes
+    /// moved).
+    pub fn pull(&mut self, conn: u32, into: &mut [u8]) -> Option<usize>
+        ensures specs { self.new.specs ≡ self.old.specs }
+        ensures sound { IsSound self.old → IsSound self.new }
+        ensures pulled { PulledFrom self.old.queues conn into.old self.new.queues into.new result }
+    {
+        let queue = self.rows.get_mut(conn)?;
+        Some(queue.pull(into))
+    }
+}
+
+/// Whether an id is there, or a ring connection of the same domain.
+fn is_taken(conns: &Conns, conn: u32, spec: ConnSpec) -> bool
+    ensures { result ≡ is_taken conn spec conns.now }
+{
+    conns.spec(conn).is_some() || has_its_ring(conns, spec)
+}
+
+/// Whether a domain has a ring connection already, where this is a ring of it.
+fn has_its_ring(conns: &Conns, spec: ConnSpec) -> bool
+    ensures { result ≡ has_its_ring spec conns.now }
+{
+    match spec {
+        ConnSpec::Ring { domid, .. } => conns.by_domid(domid).is_some(),
+        ConnSpec::Socket { .. } => false,
+    }
+}
+
+/// The same end with another event channel.
+fn with_evtchn(evtchn: u32, spec: ConnSpec) -> ConnSpec
+    ensures value { result ≡ with_evtchn evtchn spec }
+    ensures domain { ring_domid result ≡ ring_domid spec }
+{
+    match spec {
+        ConnSpec::Ring { domid, target, .. } => ConnSpec::Ring {
+            domid,
+            target,
+            evtchn,
+        },
+        ConnSpec::Socket { fd } => ConnSpec::Socket { fd },
+    }
+}
+
+/// The same end with another target.
+fn with_target(target: u16, spec: ConnSpec) -> ConnSpec
+    ensures value { result ≡ with_target target spec }
+    ensures domain { ring_domid result ≡ ring_domid spec }
+{
+    match spec {
+        ConnSpec::Ring { domid, evtchn, .. } => ConnSpec::Ring {
+            domid,
+            target: Some(target),
+            evtchn,
+        },
+        ConnSpec::Socket { fd } => ConnSpec::Socket { fd },
+    }
+}
