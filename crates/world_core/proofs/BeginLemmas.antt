@@ -1,42 +1,130 @@
--- The pages of a start: a daemon's connections are domain 0's alone, so that it has one fresh page or none.
-use Rattle.std.proofs.Common.{◌≡◌, ℕ, true, false, List, [], ◌∷◌, map, Option, is_some, refl, sym, ap, ◌∙◌}
-use Rattle.std.specs.List.{filter_map}
-use Rattle.machine_model.specs.Connections.{Connections, ring_of}
-use Rattle.machine_model.specs.Machine.{Machine}
-use Rattle.world_model.specs.Worlds.{Guest, fresh_guest, ring_domid, with_fresh_guests}
-use Rattle.daemon.specs.Store.{control_conn}
+-- The pages of a start: one for each ring connection, in the order of their ids.
+use Rattle.std.proofs.Common.{◌≡◌, ℕ, ◌<◌, ◌≤◌, ◌==◌, true, false, cond, not, List, [], ◌∷◌, length, drop, nat_lt, Some, None, is_some, inl, inr, refl, sym, ap, subst, ◌∙◌, eqb-true, arith}
+use Rattle.std.specs.Ordering.{nat_cmp, is_eq}
+use Rattle.std.specs.Cmp.{tied_itself}
+use Rattle.std.specs.FinMap.{find, put, nat_cmp-IsAntisymmetric}
+use Rattle.std.specs.FinMap.Entries.{find-where_key}
+use Rattle.std.specs.List.{AllByRecursion, filter_map, cons_option}
+use Rattle.std.proofs.lemmas.Bool.{cases_Bool, and_parts}
+use Rattle.std.proofs.lemmas.Bool.Decides.{nat_tests}
+use Rattle.std.proofs.lemmas.Cmp.{nat_cmp_total}
+use Rattle.xs_model.proofs.Maps.{from_Some, not_Some}
+use Rattle.machine_model.specs.declared.ConnSpec.{ConnSpec}
+use Rattle.machine_model.specs.declared.ConnSpec.TheVariants.{Ring, Socket}
+use Rattle.machine_model.specs.Connections.{Connection, ring_of}
+use Rattle.id_map.specs.Ids.{above, first_id}
+use Rattle.conn_table.specs.Tables.{Specs, ring_id, has_distinct_rings}
+use Rattle.world_model.specs.Worlds.{Guest, ring_domid, with_fresh_guests}
+use Rattle.world_laws.proofs.EntryLemmas.{not_none, none_of, found_same, found_other}
 use Rattle.daemon.specs.Keeps as daemon
+use Rattle.daemon.specs.Keeps.{conns_of}
+use Rattle.daemon.proofs.KeepsLemmas.{conns_ring}
+use Rattle.world_core.specs.Guests.{ring_domids, with_fresh_page, with_ring, with_rings}
+use Rattle.world_core.specs.Stands.{Kept, Begins}
+use Rattle.world_core.proofs.RingLemmas.{is_not}
 
-abbrev fresh_pages : Connections → List (ℕ × Guest)
-fresh_pages conns = with_fresh_guests (filter_map (λ e. ring_domid e.1.spec) conns) []
+-- ONE AFTER THE OTHER, by ids
+pages_by_one : (e : ℕ × ConnSpec) (es : Specs) (guests : List (ℕ × Guest)) → with_fresh_guests (ring_domids (e ∷ es)) guests ≡ with_fresh_guests (ring_domids es) (with_fresh_page (ring_domid e.1) guests)
+pages_by_one e es guests =
+    elim (ring_domid e.1) as (λ o. with_fresh_guests (cons_option o (ring_domids es)) guests ≡ with_fresh_guests (ring_domids es) (with_fresh_page o guests)) [ None ↦ refl | Some d ↦ refl ]
 
-abbrev control_conns : List (ℕ × List ℕ) → Connections
-control_conns unsent = map (λ e. (e.0, control_conn)) unsent
+-- all of them are above 0
+pub all_above : {X : Type 0} (es : List (ℕ × X)) → AllByRecursion (λ (e : ℕ × X). 1 ≤ e.0) es → above 0 es ≡ es
+all_above [] h = refl
+all_above (e ∷ es) h =
+    let first : nat_lt 0 e.0 ≡ true = positive e.0 h.0 in
+    ap (λ b. cond b (e ∷ above 0 es) (above 0 es)) first ∙ ap (λ l. e ∷ l) (all_above es h.1)
+  where
+    positive : (k : ℕ) → 1 ≤ k → nat_lt 0 k ≡ true
+    positive k h = grind (arith, nat_tests)
 
-abbrev one_page : List (ℕ × Guest)
-one_page = (0, fresh_guest 0) ∷ []
+pub none_left : {X : Type 0} (es : List (ℕ × X)) → None ≡ first_id es → es ≡ []
+none_left [] h = refl
+none_left (e ∷ es) h = not_Some h
 
--- the page of domain 0 is put again for each further connection
-again : (unsent : List (ℕ × List ℕ)) → with_fresh_guests (filter_map (λ e. ring_domid e.1.spec) (control_conns unsent)) one_page ≡ one_page
-again [] = refl
-again (e ∷ es) = again es
+first_is : {X : Type 0} (es : List (ℕ × X)) (n : ℕ) → Some n ≡ first_id es → (x : X) × (es ≡ (n, x) ∷ drop 1 es)
+first_is [] n h = not_Some (sym h)
+first_is (e ∷ es) n h = (e.1, ap (λ k. (k, e.1) ∷ es) (sym (from_Some h)))
 
-page_of_some : (unsent : List (ℕ × List ℕ)) → is_some (ring_of 0 (control_conns unsent)) ≡ true → fresh_pages (control_conns unsent) ≡ one_page
-page_of_some [] h = cc h
-page_of_some (e ∷ es) h = again es
+found_above : {X : Type 0} (id n : ℕ) (es : List (ℕ × X)) (x : X) → find nat_cmp n (above id es) ≡ Some x → find nat_cmp n es ≡ Some x
+found_above id n es x h =
+    elim (nat_lt id n) as (λ b. cond b (find nat_cmp n es) None ≡ Some x → find nat_cmp n es ≡ Some x) [
+      | true ↦ λ e. e
+      | false ↦ λ e. not_Some e
+    ] (sym (find-where_key nat_cmp (λ key. nat_lt id key) n (λ k t. ap (λ y. nat_lt id y) (sym (nat_cmp-IsAntisymmetric n k t))) es) ∙ h)
 
-page_of_none : (unsent : List (ℕ × List ℕ)) → is_some (ring_of 0 (control_conns unsent)) ≡ false → fresh_pages (control_conns unsent) ≡ []
-page_of_none [] h = refl
-page_of_none (e ∷ es) h = cc h
+module _ (specs : Specs) (id n : ℕ) (next : Some n ≡ first_id (above id specs)) (walk : above n specs ≡ drop 1 (above id specs)) where
+  record IsFirst : Type 0 where
+    spec : ConnSpec
+    found : find nat_cmp n specs ≡ Some spec
+    left : above id specs ≡ (n, spec) ∷ above n specs
 
--- by whether domain 0 has a connection
-module _ (kept : daemon.Kept) (m : Machine) (ring : Option ℕ) (stands : daemon.StandsFor kept m) (found : ring ≡ ring_of 0 m.conns) where
-  pub begun_with_page : is_some ring ≡ true → fresh_pages m.conns ≡ one_page
-  begun_with_page some =
-      ap fresh_pages stands.conns
-      ∙ page_of_some kept.unsent (sym (ap is_some (found ∙ ap (ring_of 0) stands.conns)) ∙ some)
+  first_left : IsFirst
+  first_left =
+      let first = first_is (above id specs) n next in
+      let left : above id specs ≡ (n, first.0) ∷ above n specs = first.1 ∙ ap (λ l. (n, first.0) ∷ l) (sym walk) in
+      record { spec = first.0; found = found_above id n specs first.0 (ap (find nat_cmp n) left ∙ found_at n first.0 (above n specs)); left = left }
+    where
+      found_at : (n : ℕ) (spec : ConnSpec) (es : Specs) → find nat_cmp n ((n, spec) ∷ es) ≡ Some spec
+      found_at n spec es = ap (λ r. cond (is_eq r) (Some spec) (find nat_cmp n es)) (tied_itself nat_cmp_total n)
 
-  pub begun_without_page : is_some ring ≡ false → fresh_pages m.conns ≡ []
-  begun_without_page none =
-      ap fresh_pages stands.conns
-      ∙ page_of_none kept.unsent (sym (ap is_some (found ∙ ap (ring_of 0) stands.conns)) ∙ none)
+  pub fewer_left : length (above n specs) < length (above id specs)
+  fewer_left =
+      let left = first_left.left in
+      subst (λ (es : Specs). length (above n specs) < length es) (sym left) (omega arith)
+
+  pub pages_left : (old new : List (ℕ × Guest)) → ((spec : ConnSpec) → find nat_cmp n specs ≡ Some spec → new ≡ with_fresh_page (ring_domid spec) old)
+      → with_fresh_guests (ring_domids (above n specs)) new ≡ with_fresh_guests (ring_domids (above id specs)) old
+  pages_left old new seated =
+      let first = first_left in
+      ap (with_fresh_guests (ring_domids (above n specs))) (seated first.spec first.found)
+      ∙ sym (pages_by_one (n, first.spec) (above n specs) old)
+      ∙ ap (λ es. with_fresh_guests (ring_domids es) old) (sym first.left)
+
+  pub rings_left : (old new : List (ℕ × ℕ)) → ((spec : ConnSpec) → find nat_cmp n specs ≡ Some spec → new ≡ with_ring n (ring_domid spec) old)
+      → with_rings (above n specs) new ≡ with_rings (above id specs) old
+  rings_left old new seated =
+      let first = first_left in
+      ap (with_rings (above n specs)) (seated first.spec first.found) ∙ ap (λ es. with_rings es old) (sym first.left)
+
+-- THE RINGS that are kept
+rings_stay : (d : ℕ) (es : Specs) (rings : List (ℕ × ℕ)) → ring_id d es ≡ None → find nat_cmp d (with_rings es rings) ≡ find nat_cmp d rings
+rings_stay d [] rings h = refl
+rings_stay d ((id, Socket fd) ∷ es) rings h = rings_stay d es rings h
+rings_stay d ((id, Ring domid target evtchn) ∷ es) rings h =
+    elim (cases_Bool (d == domid)) [
+      | inl t ↦ not_none (ap (λ b. cond b (Some id) (ring_id d es)) t) h
+      | inr f ↦ rings_stay d es (put nat_cmp domid id rings) (sym (ap (λ b. cond b (Some id) (ring_id d es)) f) ∙ h) ∙ found_other d domid id rings f
+    ]
+
+rings_found : (d c : ℕ) (es : Specs) (rings : List (ℕ × ℕ)) → has_distinct_rings es ≡ true → ring_id d es ≡ Some c → find nat_cmp d (with_rings es rings) ≡ Some c
+rings_found d c [] rings distinct h = not_none h refl
+rings_found d c ((id, Socket fd) ∷ es) rings distinct h = rings_found d c es rings distinct h
+rings_found d c ((id, Ring domid target evtchn) ∷ es) rings distinct h =
+    let parts = and_parts (not (is_some (ring_id domid es))) (has_distinct_rings es) distinct in
+    let none : ring_id domid es ≡ None = none_of (ring_id domid es) (is_not (is_some (ring_id domid es)) parts.0) in
+    elim (cases_Bool (d == domid)) [
+      | inl t ↦
+          let same = eqb-true d domid t in
+          rings_stay d es (put nat_cmp domid id rings) (ap (λ k. ring_id k es) same ∙ none)
+          ∙ ap (λ k. find nat_cmp k (put nat_cmp domid id rings)) same ∙ found_same domid id rings
+          ∙ sym (ap (λ b. cond b (Some id) (ring_id d es)) t) ∙ h
+      | inr f ↦ rings_found d c es (put nat_cmp domid id rings) parts.1 (sym (ap (λ b. cond b (Some id) (ring_id d es)) f) ∙ h)
+    ]
+
+domids_of : (specs : Specs) → filter_map (λ (e : ℕ × Connection). ring_domid e.1.spec) (conns_of specs) ≡ ring_domids specs
+domids_of [] = refl
+domids_of (e ∷ es) = ap (cons_option (ring_domid e.1)) (domids_of es)
+
+-- A START
+pub begins : (store : daemon.Kept) (inboxes : List (ℕ × List ℕ)) (new : Kept) → new.daemon ≡ store → new.inboxes ≡ inboxes → new.guests ≡ with_fresh_guests (ring_domids store.specs) [] → new.rings ≡ with_rings store.specs [] → Begins store inboxes new
+begins store inboxes new same_daemon same_inboxes guests rings = record {
+  stands = λ m channels stands of_inboxes of_unsent order. record {
+    store = subst (λ kept. daemon.StandsFor kept m) (sym same_daemon) stands;
+    guests = ap (λ ds. with_fresh_guests ds []) (ap (filter_map (λ (e : ℕ × Connection). ring_domid e.1.spec)) stands.conns ∙ domids_of store.specs) ∙ sym guests;
+    inboxes = of_inboxes ∙ sym same_inboxes;
+    unsent = of_unsent ∙ ap (λ (kept : daemon.Kept). kept.unsent) (sym same_daemon);
+    order = order;
+    rings = λ d c h. ap (find nat_cmp d) rings ∙ rings_found d c store.specs [] stands.table.rings (sym (conns_ring d store.specs) ∙ ap (ring_of d) (sym stands.conns) ∙ h);
+  };
+}

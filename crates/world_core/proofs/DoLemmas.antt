@@ -1,23 +1,26 @@
 -- Events of a connection: what is in front of its inbox decides, and the store answers.
-use Rattle.std.proofs.Common.{◌≡◌, ℕ, ◌<◌, ◌≤◌, ◌⊎◌, Bool, true, false, cond, List, length, take, drop, nat_le, Result, Ok, Err, is_err, OnErr, Option, Some, None, inl, inr, refl, sym, ap, subst, ◌∙◌, arith}
+use Rattle.std.proofs.Common.{◌≡◌, ℕ, ◌<◌, ◌≤◌, Bool, true, false, cond, List, length, take, drop, nat_le, Result, Ok, Err, is_err, OnErr, Some, None, inl, inr, refl, sym, ap, subst, ◌∙◌, arith}
 use Rattle.std.proofs.lemmas.Bool.{false≢true}
 use Rattle.std.proofs.lemmas.Bool.Decides.{nat_tests}
 use Rattle.std.specs.Ordering.{nat_cmp}
 use Rattle.std.specs.FinMap.{find, put}
 use Rattle.xs_model.proofs.Maps.{from_Some, not_Some}
 use Rattle.xs_model.specs.Requests.{built_types}
-use Rattle.machine_model.specs.Machine.{Machine, Item, Asked, Step, built_step}
+use Rattle.machine_model.specs.Machine.{Machine, Item, Asked, built_step}
 use Rattle.world_model.specs.declared.Said.{Said}
 use Rattle.world_model.specs.declared.Said.TheVariants as said
 use Rattle.world_model.specs.Fronts.{Front, Whole, TooLong, Part, front, is_part}
-use Rattle.world_model.specs.Worlds.{World, Guest, Channel, Served, Told, Event, told, served, server_event, event_with, intake_at, intake_event, intake_ring, do_at, do_event, do_message, do_step, done_unless, dropped, channels_after, crowded}
+use Rattle.world_model.specs.Worlds.{World, Served, Told, Event, told, served, server_event, event_with, intake_at, intake_event, intake_ring, do_at, do_event, do_message, do_step, done_unless, dropped, channels_after, crowded}
 use Rattle.daemon.specs.declared.answer.Door.{Door}
 use Rattle.daemon.specs.Keeps as daemon
+use Rattle.daemon.specs.Peers.{IsSoundTable}
 use Rattle.daemon.specs.Submits.{Takes, IsHeld, IsCrowded, unsent_after, crowded as crowded_unsent}
-use Rattle.world_core.specs.Stands.{Kept, StandsFor, Follows, FoundNone, TakesMemory, Acts, ActsOrNone, Steps, unsent_of}
+use Rattle.world_core.specs.Stands.{Kept, StandsFor, Follows, TakesMemory, Acts, ActsOrNone, Steps}
 use Rattle.world_core.specs.Parts.{IsServed}
+use Rattle.world_core.specs.declared.seats.Seats.{Seats}
+use Rattle.world_core.specs.Seats.{Tables, tables_of, IsSame, Follows as SeatsFollow}
 use Rattle.world_core.proofs.ChannelLemmas.{crowded_same}
-use Rattle.world_core.proofs.StandLemmas.{stepped, left, unsent_then, taken_stands}
+use Rattle.world_core.proofs.StandLemmas.{stepped, left, unsent_then, Follow, taken_stands}
 use Rattle.world_core.proofs.ServedLemmas.{Parts, parts_of}
 use Rattle.world_core.proofs.EventLemmas.{unchanged, connection_acts}
 
@@ -72,7 +75,7 @@ is_held : (n : ℕ) → 32768 ≤ n → nat_le 32768 n ≡ true
 is_held n many = grind (arith, nat_tests)
 
 module _ (old new : Kept) (w : World) (d : ℕ) (at : Served) (n : ℕ) (stands : StandsFor old w) (h : served w d ≡ Some at) where
-  parts : Parts old w d at
+  pub parts : Parts old w d at
   parts = parts_of old w d at stands h
 
   item : Item
@@ -85,8 +88,8 @@ module _ (old new : Kept) (w : World) (d : ℕ) (at : Served) (n : ℕ) (stands 
   crowd_is =
       crowded_same (channels_after (stepped old new w at n (take n at.channel.inbox) stands parts.channel) (left old new w at n (take n at.channel.inbox) stands parts.channel)) ∙ ap crowded_unsent (unsent_then old new w at n (take n at.channel.inbox) stands parts.channel)
 
-  pub done : (door : Door) → Takes old.daemon w.machine at.conn (take n at.channel.inbox) door new.daemon → new.inboxes ≡ put nat_cmp at.conn (drop n at.channel.inbox) old.inboxes → new.guests ≡ old.guests → Follows new said.Done (do_message built_types n w at)
-  done door takes inboxes guests =
+  pub done : (door : Door) → Takes old.daemon w.machine at.conn (take n at.channel.inbox) door new.daemon → IsSoundTable new.daemon.specs → Follow old new w at n (take n at.channel.inbox) stands parts.channel door → Follows new said.Done (do_message built_types n w at)
+  done door takes sound follow =
       let few = subst (λ u. length u < 32768) (unsent_is takes.bytes takes.there) takes.few in
       subst (λ b. Follows new said.Done (cond b (told w (said.Held (length at.channel.unsent))) (do_step built_types n w at (Asked at.conn (take n at.channel.inbox)))))
       (sym (not_held at.channel.unsent few))
@@ -94,7 +97,7 @@ module _ (old new : Kept) (w : World) (d : ℕ) (at : Served) (n : ℕ) (stands 
       (sym (crowd_is ∙ takes.uncrowded))
       (record {
         says = refl;
-        stands = taken_stands old new w at n (take n at.channel.inbox) stands parts.channel door takes inboxes guests;
+        stands = taken_stands old new w at n (take n at.channel.inbox) stands parts.channel door takes sound follow;
         taken = λ k e. cc;
       }))
 
@@ -119,8 +122,19 @@ module _ (old new : Kept) (w : World) (d : ℕ) (at : Served) (n : ℕ) (stands 
   not_gone none = not_Some (sym none ∙ parts.unsent)
 
 -- BY WHAT THE CODE HOLDS
-pub same_kept : (old new : Kept) → new.daemon ≡ old.daemon → new.inboxes ≡ old.inboxes → new.guests ≡ old.guests → new.taken ≡ old.taken → new ≡ old
-same_kept old new a b c d = λ i. record { daemon = a i; inboxes = b i; guests = c i; taken = d i }
+pub same_kept : (old new : Kept) → new.daemon ≡ old.daemon → new.inboxes ≡ old.inboxes → new.guests ≡ old.guests → new.rings ≡ old.rings → new.taken ≡ old.taken → new ≡ old
+same_kept old new a b c d e = λ i. record { daemon = a i; inboxes = b i; guests = c i; rings = d i; taken = e i }
+
+-- other seats with the same tables
+abbrev pub kept_with : daemon.Kept → Seats → List ℕ → Kept
+kept_with store seats taken =
+    record { daemon = store; inboxes = seats.ins.entries; guests = seats.guests.entries; rings = seats.rings.entries; taken = taken }
+
+pub same_seats : (store : daemon.Kept) (old new : Seats) (taken : List ℕ) → IsSame (tables_of old) (tables_of new) → kept_with store new taken ≡ kept_with store old taken
+same_seats store old new taken same = same_kept (kept_with store old taken) (kept_with store new taken) refl same.inboxes same.guests same.rings refl
+
+same_tables : (a b : Tables) → a.inboxes ≡ b.inboxes → a.guests ≡ b.guests → a.rings ≡ b.rings → a ≡ b
+same_tables a b p q r = λ i. record { inboxes = p i; guests = q i; rings = r i }
 
 module _ (old new : Kept) (d c : ℕ) where
   pub acts_without_inbox : (act : World → Served → Told) (answer : Said) → find nat_cmp c old.inboxes ≡ None → Acts old d c act new answer
@@ -130,29 +144,33 @@ module _ (old new : Kept) (d c : ℕ) where
   pub acts_without_guest : (act : World → Served → Told) (answer : Said) → find nat_cmp d old.guests ≡ None → Acts old d c act new answer
   acts_without_guest act answer none w at stands h conn = not_Some (sym none ∙ (parts_of old w d at stands h).guest)
 
-  module _ (n : ℕ) (inbox message : List ℕ) (after : daemon.Kept) (there : find nat_cmp c old.inboxes ≡ Some inbox) (first : message ≡ take n inbox) where
+  module _ (n : ℕ) (inbox message : List ℕ) (there : find nat_cmp c old.inboxes ≡ Some inbox) (first : message ≡ take n inbox) where
     inbox_is : (w : World) (at : Served) → StandsFor old w → served w d ≡ Some at → at.conn ≡ c → inbox ≡ at.channel.inbox
     inbox_is w at stands h conn =
         from_Some (sym there ∙ ap (λ k. find nat_cmp k old.inboxes) (sym conn) ∙ (parts_of old w d at stands h).inbox)
 
-    pub acts_done : (door : Door) → ((m : Machine) → daemon.StandsFor old.daemon m → Takes old.daemon m c message door after) → new.daemon ≡ after → ((bytes : List ℕ) → find nat_cmp c old.inboxes ≡ Some bytes → new.inboxes ≡ put nat_cmp c (drop n bytes) old.inboxes) → new.guests ≡ old.guests → Acts old d c (do_message built_types n) new said.Done
-    acts_done door takes is inboxes guests w at stands h conn =
+    pub acts_done : (door : Door) → ((m : Machine) → daemon.StandsFor old.daemon m → Takes old.daemon m c message door new.daemon) → IsSoundTable new.daemon.specs
+        → (mid : Tables) → ((bytes : List ℕ) → find nat_cmp c old.inboxes ≡ Some bytes → mid.inboxes ≡ put nat_cmp c (drop n bytes) old.inboxes) → mid.guests ≡ old.guests → mid.rings ≡ old.rings
+        → SeatsFollow new.daemon door mid (record { inboxes = new.inboxes; guests = new.guests; rings = new.rings }) → Acts old d c (do_message built_types n) new said.Done
+    acts_done door takes sound mid inboxes same_guests same_rings follow w at stands h conn =
         let same = inbox_is w at stands h conn in
         let took : Takes old.daemon w.machine at.conn (take n at.channel.inbox) door new.daemon =
         subst (λ k. Takes old.daemon w.machine k (take n at.channel.inbox) door new.daemon) (sym conn)
-        (subst (λ m. Takes old.daemon w.machine c m door new.daemon) (first ∙ ap (take n) same)
-        (subst (λ k. Takes old.daemon w.machine c message door k) (sym is) (takes w.machine stands.store))) in
-        done old new w d at n stands h door took
-        (inboxes inbox there ∙ ap (λ k. put nat_cmp k (drop n inbox) old.inboxes) (sym conn) ∙ ap (λ i. put nat_cmp at.conn (drop n i) old.inboxes) same) guests
+        (subst (λ m. Takes old.daemon w.machine c m door new.daemon) (first ∙ ap (take n) same) (takes w.machine stands.store)) in
+        let skipped : mid.inboxes ≡ put nat_cmp at.conn (drop n at.channel.inbox) old.inboxes =
+        inboxes inbox there ∙ ap (λ k. put nat_cmp k (drop n inbox) old.inboxes) (sym conn) ∙ ap (λ i. put nat_cmp at.conn (drop n i) old.inboxes) same in
+        done old new w d at n stands h door took sound
+        (subst (λ tables. SeatsFollow new.daemon door tables (record { inboxes = new.inboxes; guests = new.guests; rings = new.rings }))
+        (same_tables mid (record { inboxes = put nat_cmp at.conn (drop n at.channel.inbox) old.inboxes; guests = old.guests; rings = old.rings }) skipped same_guests same_rings) follow)
 
-    pub acts_held : (u : ℕ) → IsHeld old.daemon c u after → new ≡ old → Acts old d c (do_message built_types n) new (said.Held u)
-    acts_held u holds same w at stands h conn =
+    pub acts_held : (after : daemon.Kept) (u : ℕ) → IsHeld old.daemon c u after → new ≡ old → Acts old d c (do_message built_types n) new (said.Held u)
+    acts_held after u holds same w at stands h conn =
         held old new w d at n stands h u
         (subst (λ k. IsHeld old.daemon k u new.daemon) (sym conn)
         (record { bytes = holds.bytes; there = holds.there; number = holds.number; many = holds.many; same = ap (λ (k : Kept). k.daemon) same })) same
 
-    pub acts_crowded : (e : ℕ) → ((m : Machine) → daemon.StandsFor old.daemon m → IsCrowded old.daemon m c message e after) → new ≡ old → Acts old d c (do_message built_types n) new (said.Crowded e)
-    acts_crowded e is same w at stands h conn =
+    pub acts_crowded : (after : daemon.Kept) (e : ℕ) → ((m : Machine) → daemon.StandsFor old.daemon m → IsCrowded old.daemon m c message e after) → new ≡ old → Acts old d c (do_message built_types n) new (said.Crowded e)
+    acts_crowded after e is same w at stands h conn =
         let found = is w.machine stands.store in
         crowds old new w d at n stands h e
         (subst (λ k. IsCrowded old.daemon w.machine k (take n at.channel.inbox) e new.daemon) (sym conn)

@@ -1,20 +1,18 @@
 -- What the events say and leave, from what the code did to its parts.
-use Rattle.std.proofs.Common.{◌≡◌, ℕ, ◌≤◌, ◌==◌, not, Bool, true, false, List, ◌++◌, length, take, drop, min, Option, Some, None, inl, inr, refl, sym, ap, subst, ◌∙◌}
+use Rattle.std.proofs.Common.{◌≡◌, ℕ, ◌==◌, not, Some, None, refl, sym, ap, subst, ◌∙◌}
 use Rattle.std.specs.Ordering.{nat_cmp}
 use Rattle.std.specs.FinMap.{find, put}
 use Rattle.std.specs.FinMap.Entries.{where_key}
-use Rattle.xs_model.specs.Requests.{built_types}
 use Rattle.world_model.specs.declared.Said.{Said}
 use Rattle.world_model.specs.declared.Said.TheVariants as said
-use Rattle.world_model.specs.Rings.{Page, put_all, take_some, held, filled, with_request, with_reply, with_error}
-use Rattle.world_model.specs.Fronts.{Front, Whole, TooLong, Part, front}
-use Rattle.world_model.specs.Worlds.{World, Guest, Channel, Served, Told, told, served, guest_event, for_guest, server_event, for_served, put_some, got_some, intake_at, dropped}
+use Rattle.world_model.specs.Rings.{with_error}
+use Rattle.world_model.specs.Worlds.{World, Guest, Served, Told, told, guest_event, for_guest, server_event, for_served, dropped}
 use Rattle.daemon.specs.Submits.{Drops}
 use Rattle.world_core.specs.Guests.{with_page_of}
 use Rattle.world_core.specs.Stands.{Kept, StandsFor, Follows, Acts}
-use Rattle.world_core.specs.Parts.{Serves, IsServed}
-use Rattle.world_core.proofs.StandLemmas.{guest_changed, inbox_changed, unsent_changed, lost}
-use Rattle.world_core.proofs.ServedLemmas.{Parts, parts_of}
+use Rattle.world_core.specs.Parts.{IsServed}
+use Rattle.world_core.proofs.StandLemmas.{lost}
+use Rattle.world_core.proofs.ServedLemmas.{parts_of}
 
 -- NOTHING CHANGES
 pub unchanged : (old : Kept) (w : World) (answer : Said) → StandsFor old w → ((n : ℕ) → answer ≡ said.Got n → ⊥) → Follows old answer (told w answer)
@@ -43,12 +41,12 @@ module _ (old : Kept) (d : ℕ) (act : World → Served → Told) where
       subst (λ o. Follows new answer (for_served act w o)) (sym some.served) (acts w some.at stands some.served some.conn)
 
 -- A DROP
-pub drops : (old new : Kept) (d c error : ℕ) (answer : Said) → Drops old.daemon c new.daemon → new.inboxes ≡ where_key nat_cmp (λ k. not (c == k)) old.inboxes → ((guest : Guest) → find nat_cmp d old.guests ≡ Some guest → new.guests ≡ put nat_cmp d (with_page_of (with_error error) guest) old.guests) → ((n : ℕ) → answer ≡ said.Got n → ⊥) → Acts old d c (dropped d error answer) new answer
-drops old new d c error answer lose inboxes guests other w at stands h conn =
+pub drops : (old new : Kept) (d c error : ℕ) (answer : Said) → Drops old.daemon c new.daemon → new.inboxes ≡ where_key nat_cmp (λ k. not (c == k)) old.inboxes → ((guest : Guest) → find nat_cmp d old.guests ≡ Some guest → new.guests ≡ put nat_cmp d (with_page_of (with_error error) guest) old.guests) → new.rings ≡ old.rings → ((n : ℕ) → answer ≡ said.Got n → ⊥) → Acts old d c (dropped d error answer) new answer
+drops old new d c error answer lose inboxes guests rings other w at stands h conn =
     let parts = parts_of old w d at stands h in
     record {
       says = refl;
       stands = lost old new w at.conn d (with_page_of (with_error error) at.guest) stands (subst (λ k. Drops old.daemon k new.daemon) (sym conn) lose)
-          (inboxes ∙ ap (λ k. where_key nat_cmp (λ j. not (k == j)) old.inboxes) (sym conn)) (guests at.guest parts.guest);
+          (inboxes ∙ ap (λ k. where_key nat_cmp (λ j. not (k == j)) old.inboxes) (sym conn)) (guests at.guest parts.guest) rings;
       taken = λ n e. absurd (other n e);
     }

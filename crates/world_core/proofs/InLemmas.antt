@@ -1,5 +1,5 @@
 -- Bytes that come in: from a request ring to an inbox.
-use Rattle.std.proofs.Common.{◌≡◌, ℕ, ◌==◌, Bool, true, false, cond, List, ◌++◌, length, take, drop, min, Result, Ok, Err, Option, Some, None, refl, sym, ap, subst, ◌∙◌}
+use Rattle.std.proofs.Common.{◌≡◌, ℕ, true, false, cond, List, ◌++◌, take, Result, Ok, Err, Some, refl, sym, ap, subst, ◌∙◌}
 use Rattle.std.specs.Ordering.{nat_cmp}
 use Rattle.std.specs.FinMap.{find, put}
 use Rattle.xs_model.proofs.Maps.{from_Some}
@@ -9,11 +9,11 @@ use Rattle.world_model.specs.declared.Said.{Said}
 use Rattle.world_model.specs.declared.Said.TheVariants as said
 use Rattle.world_model.specs.Rings.{Ring, is_bad, held, take_some, with_request}
 use Rattle.world_model.specs.Fronts.{intake}
-use Rattle.world_model.specs.Worlds.{World, Guest, Channel, Served, told, served, with_guest, with_channel, took, intake_ring, dropped, dropped_for_index}
+use Rattle.world_model.specs.Worlds.{World, Guest, Served, served, with_guest, with_channel, took, intake_ring, dropped, dropped_for_index}
 use Rattle.world_core.specs.Guests.{with_page_of}
 use Rattle.world_core.specs.Stands.{Kept, StandsFor, Follows, Acts}
 use Rattle.world_core.proofs.StandLemmas.{guest_changed, inbox_changed}
-use Rattle.world_core.proofs.ServedLemmas.{Parts, parts_of}
+use Rattle.world_core.proofs.ServedLemmas.{parts_of}
 
 record Good (ring : Ring) (n m : ℕ) : Type 0 where
   good : is_bad ring ≡ false
@@ -44,8 +44,8 @@ module _ (old new : Kept) (d c max : ℕ) (guest : Guest) (inbox : List ℕ) (th
   inbox_is : (w : World) (at : Served) → StandsFor old w → served w d ≡ Some at → at.conn ≡ c → inbox ≡ at.channel.inbox
   inbox_is w at stands h conn = from_Some (sym held_in ∙ ap (λ k. find nat_cmp k old.inboxes) (sym conn) ∙ (parts_of old w d at stands h).inbox)
 
-  pub took_in : (n : ℕ) (inbox_new : List ℕ) (guest_new : Guest) → Ok n ≡ unless_bad guest.page.request (intake inbox (take max (held guest.page.request))) → inbox_new ≡ inbox ++ take n (held guest.page.request) → guest_new ≡ with_page_of (with_request (take_some n guest.page.request)) guest → new.daemon ≡ old.daemon → new.inboxes ≡ put nat_cmp c inbox_new old.inboxes → new.guests ≡ put nat_cmp d guest_new old.guests → Acts old d c (intake_ring d max) new (said.Took n)
-  took_in n inbox_new guest_new count fed after same_daemon inboxes guests w at stands h conn =
+  pub took_in : (n : ℕ) (inbox_new : List ℕ) (guest_new : Guest) → Ok n ≡ unless_bad guest.page.request (intake inbox (take max (held guest.page.request))) → inbox_new ≡ inbox ++ take n (held guest.page.request) → guest_new ≡ with_page_of (with_request (take_some n guest.page.request)) guest → new.daemon ≡ old.daemon → new.inboxes ≡ put nat_cmp c inbox_new old.inboxes → new.guests ≡ put nat_cmp d guest_new old.guests → new.rings ≡ old.rings → Acts old d c (intake_ring d max) new (said.Took n)
+  took_in n inbox_new guest_new count fed after same_daemon inboxes guests rings w at stands h conn =
       let parts = parts_of old w d at stands h in
       let g = guest_is w at stands h in
       let i = inbox_is w at stands h conn in
@@ -56,11 +56,11 @@ module _ (old new : Kept) (d c max : ℕ) (guest : Guest) (inbox : List ℕ) (th
       let guest_now : guest_new ≡ page = after ∙ ap (λ (x : Guest). with_page_of (with_request (take_some n x.page.request)) x) g in
       let inbox_now : inbox_new ≡ at.channel.inbox ++ take n (held at.guest.page.request) =
       fed ∙ ap (λ (x : Guest). inbox ++ take n (held x.page.request)) g ∙ ap (λ l. l ++ take n (held at.guest.page.request)) i in
-      let mid : Kept = record { daemon = old.daemon; inboxes = old.inboxes; guests = new.guests; taken = old.taken } in
-      let on_guest : StandsFor mid (with_guest d page w) = guest_changed old mid w d page stands refl refl (guests ∙ ap (λ x. put nat_cmp d x old.guests) guest_now) in
+      let mid : Kept = record { daemon = old.daemon; inboxes = old.inboxes; guests = new.guests; rings = old.rings; taken = old.taken } in
+      let on_guest : StandsFor mid (with_guest d page w) = guest_changed old mid w d page stands refl refl (guests ∙ ap (λ x. put nat_cmp d x old.guests) guest_now) refl in
       let both : StandsFor new (with_channel at.conn (record { inbox = at.channel.inbox ++ take n (held at.guest.page.request); unsent = at.channel.unsent }) (with_guest d page w)) =
       inbox_changed mid new (with_guest d page w) at.conn at.channel (at.channel.inbox ++ take n (held at.guest.page.request)) on_guest parts.channel same_daemon
-      (inboxes ∙ ap (λ k. put nat_cmp k inbox_new old.inboxes) (sym conn) ∙ ap (λ l. put nat_cmp at.conn l old.inboxes) inbox_now) refl
+      (inboxes ∙ ap (λ k. put nat_cmp k inbox_new old.inboxes) (sym conn) ∙ ap (λ l. put nat_cmp at.conn l old.inboxes) inbox_now) refl rings
       in
       subst (λ b. Follows new (said.Took n) (cond b (dropped_for_index d at.guest.page.request w at) (took d (intake at.channel.inbox (take max (held at.guest.page.request))) w at)))
       (sym (ap (λ (x : Guest). is_bad x.page.request) (sym g) ∙ ring.good))

@@ -1,4 +1,5 @@
 pub mod ChannelLemmas
+pub mod RingLemmas
 pub mod StandLemmas
 pub mod ServedLemmas
 pub mod EventLemmas
@@ -7,3 +8,4 @@ pub mod OutLemmas
 pub mod InLemmas
 pub mod GuestLemmas
 pub mod BeginLemmas
+pub mod AddLemmas

@@ -8,20 +8,18 @@ use Rattle.std.proofs.lemmas.Bool.Decides.{nat_tests}
 use Rattle.std.proofs.lemmas.List.{length-take-le, take-append-le}
 use Rattle.std.proofs.Math.Seq.{take-length}
 use Rattle.xs_model.proofs.Maps.{from_Some, not_Some}
-use Rattle.machine_model.specs.Machine.{Machine}
-use Rattle.ring_index.specs.Answers.{unless_bad, free_unless_bad}
+use Rattle.ring_index.specs.Answers.{free_unless_bad}
 use Rattle.ring_index.specs.declared.index.BadIndex.{BadIndex}
 use Rattle.world_model.specs.declared.Said.{Said}
 use Rattle.world_model.specs.declared.Said.TheVariants as said
-use Rattle.world_model.specs.Rings.{Ring, Page, free, is_bad, put_all, with_reply}
-use Rattle.world_model.specs.Worlds.{World, Guest, Channel, Served, Told, told, served, with_guest, with_channel, out_ring, out_event, sent_some, dropped, dropped_for_index}
-use Rattle.daemon.specs.Keeps as daemon
+use Rattle.world_model.specs.Rings.{Ring, free, is_bad, put_all, with_reply}
+use Rattle.world_model.specs.Worlds.{World, Guest, Served, told, served, with_guest, with_channel, out_ring, out_event, sent_some, dropped, dropped_for_index}
 use Rattle.daemon.specs.Submits.{Pulls}
 use Rattle.world_core.specs.Guests.{with_page_of}
 use Rattle.world_core.specs.Stands.{Kept, StandsFor, Follows, Acts}
-use Rattle.world_core.specs.Parts.{HasRoom, HasRoomFor, SendsSome}
+use Rattle.world_core.specs.Parts.{HasRoom, SendsSome}
 use Rattle.world_core.proofs.StandLemmas.{guest_changed, unsent_changed}
-use Rattle.world_core.proofs.ServedLemmas.{Parts, parts_of}
+use Rattle.world_core.proofs.ServedLemmas.{parts_of}
 use Rattle.world_core.proofs.EventLemmas.{unchanged}
 
 front_only : (n : ℕ) (xs ys : List ℕ) → n ≤ length xs → take n (take n xs ++ ys) ≡ take n xs
@@ -38,19 +36,19 @@ taken_twice (suc n) (suc most) [] h = refl
 taken_twice (suc n) (suc most) (x ∷ xs) h = ap (λ l. x ∷ l) (taken_twice n most xs (le_of_suc-le-suc h))
 
 -- SENT: the first bytes of what is unsent went into the reply ring
-pub sends : (old new : Kept) (d c most n : ℕ) (into into_new sent : List ℕ) → Pulls old.daemon c into n into_new new.daemon → length into ≡ most → sent ≡ take n into_new → new.inboxes ≡ old.inboxes → ((guest : Guest) → find nat_cmp d old.guests ≡ Some guest → new.guests ≡ put nat_cmp d (with_page_of (with_reply (put_all sent guest.page.reply)) guest) old.guests) → SendsSome old d c most new (said.Sent n)
-sends old new d c most n into into_new sent pulls long is same_inboxes guests w at stands h conn some =
+pub sends : (old new : Kept) (d c most n : ℕ) (into into_new sent : List ℕ) → Pulls old.daemon c into n into_new new.daemon → length into ≡ most → sent ≡ take n into_new → new.inboxes ≡ old.inboxes → ((guest : Guest) → find nat_cmp d old.guests ≡ Some guest → new.guests ≡ put nat_cmp d (with_page_of (with_reply (put_all sent guest.page.reply)) guest) old.guests) → new.rings ≡ old.rings → SendsSome old d c most new (said.Sent n)
+sends old new d c most n into into_new sent pulls long is same_inboxes guests rings w at stands h conn some =
     let parts = parts_of old w d at stands h in
     let bytes : pulls.bytes ≡ at.channel.unsent = from_Some (sym pulls.there ∙ ap (λ k. find nat_cmp k old.daemon.unsent) (sym conn) ∙ parts.unsent) in
     let count : n ≡ min most (length at.channel.unsent) = pulls.count ∙ ap (λ m. min m (length pulls.bytes)) long ∙ ap (λ (u : List ℕ). min most (length u)) bytes in
     let short : n ≤ length pulls.bytes = rw (pulls.count) omega arith in
     let front : sent ≡ take n at.channel.unsent = is ∙ ap (take n) pulls.taken ∙ front_only n pulls.bytes (drop n into) short ∙ ap (take n) bytes in
-    let mid : Kept = record { daemon = old.daemon; inboxes = old.inboxes; guests = new.guests; taken = old.taken } in
+    let mid : Kept = record { daemon = old.daemon; inboxes = old.inboxes; guests = new.guests; rings = old.rings; taken = old.taken } in
     let page : Guest = with_page_of (with_reply (put_all sent at.guest.page.reply)) at.guest in
-    let on_guest : StandsFor mid (with_guest d page w) = guest_changed old mid w d page stands refl refl (guests at.guest parts.guest) in
+    let on_guest : StandsFor mid (with_guest d page w) = guest_changed old mid w d page stands refl refl (guests at.guest parts.guest) refl in
     let both : StandsFor new (with_channel at.conn (record { inbox = at.channel.inbox; unsent = drop n at.channel.unsent }) (with_guest d page w)) =
     unsent_changed mid new (with_guest d page w) at.conn at.channel (drop n at.channel.unsent) on_guest parts.channel pulls.stands
-    (pulls.unsent ∙ ap (λ k. put nat_cmp k (drop n pulls.bytes) old.daemon.unsent) (sym conn) ∙ ap (λ u. put nat_cmp at.conn (drop n u) old.daemon.unsent) bytes) same_inboxes refl
+    (pulls.unsent ∙ ap (λ k. put nat_cmp k (drop n pulls.bytes) old.daemon.unsent) (sym conn) ∙ ap (λ u. put nat_cmp at.conn (drop n u) old.daemon.unsent) bytes) same_inboxes refl rings
     in
     subst (λ k. Follows new (said.Sent n) (sent_some d k w at)) count
     (record {

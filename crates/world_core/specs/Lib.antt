@@ -1,3 +1,4 @@
 pub mod Guests
 pub mod Stands
 pub mod Parts
+pub mod Seats

@@ -1,19 +1,22 @@
 -- What a world keeps, the worlds of the definitions that it stands for, and what a step of it is. This project's own.
 use Rattle.std.specs.Prelude.{◌≡◌, ◌⊎◌, ℕ, ◌≤◌, true, List, [], map, filter_map, Some, ⊤}
 use Rattle.std.specs.Ordering.{nat_cmp}
-use Rattle.std.specs.FinMap.{is_sorted}
+use Rattle.std.specs.FinMap.{find, is_sorted}
 use Rattle.xs_model.specs.Requests.{built_types}
+use Rattle.machine_model.specs.Connections.{ring_of}
 use Rattle.machine_model.specs.Machine.{Machine}
 use Rattle.world_model.specs.declared.Said.{Said}
 use Rattle.world_model.specs.declared.Said.TheVariants.{NoMemory, Got}
-use Rattle.world_model.specs.Worlds.{World, Guest, Channel, Served, served, Event, Send, Put, Intake, Do, Out, Take, Poke, ShowPage, Handover, Told, event_with, ring_domid, with_fresh_guests}
+use Rattle.world_model.specs.Worlds.{World, Guest, Channel, Served, served, Event, Send, Put, Intake, Do, Out, Take, Poke, ShowPage, Handover, Told, event_with, ring_domid, with_fresh_guests, add_domain}
 use Rattle.daemon.specs.Keeps as daemon
 
--- the store with what is unsent, the inboxes by connection, the guests by domid, and the bytes of the last take
+-- the store with what is unsent, the inboxes by connection, the guests by domid, the ring connection that each domain
+-- had last, and the bytes of the last take
 pub record Kept : Type 0 where
   pub daemon : daemon.Kept
   pub inboxes : List (ℕ × List ℕ)
   pub guests : List (ℕ × Guest)
+  pub rings : List (ℕ × ℕ)
   pub taken : List ℕ
 
 -- the two sides of the channels, by connection
@@ -30,6 +33,8 @@ pub record StandsFor (kept : Kept) (w : World) : Type 0 where
   pub inboxes : inboxes_of w.channels ≡ kept.inboxes
   pub unsent : unsent_of w.channels ≡ kept.daemon.unsent
   pub order : is_sorted nat_cmp w.channels ≡ true
+  -- a domain's ring connection is the one that it had last
+  pub rings : (d c : ℕ) → ring_of d w.machine.conns ≡ Some c → find nat_cmp d kept.rings ≡ Some c
 
 -- A START: the store and its channels, and a fresh page for each ring connection
 abbrev pub begun : Machine → List (ℕ × Channel) → World
@@ -42,6 +47,10 @@ begun m channels = record {
 pub record Begins (store : daemon.Kept) (inboxes : List (ℕ × List ℕ)) (new : Kept) : Type 0 where
   pub stands : (m : Machine) (channels : List (ℕ × Channel)) → daemon.StandsFor store m
       → inboxes_of channels ≡ inboxes → unsent_of channels ≡ store.unsent → is_sorted nat_cmp channels ≡ true → StandsFor new (begun m channels)
+
+-- A DOMAIN THAT IS THERE FROM THE START
+pub record AddsDomain (old : Kept) (d start : ℕ) (new : Kept) : Type 0 where
+  pub stands : (w : World) → StandsFor old w → StandsFor new (add_domain d start w)
 
 -- AN EVENT that may come: it moves one byte or more, and is no handover, which is not built
 abbrev pub IsBuilt : Event → Type 0

@@ -1,5 +1,7 @@
 //! Worked runs of the world, by hand.
 
+ghost use Rattle.std.specs.Prelude.{◌<◌, length};
+
 use crate::World;
 use daemon::Daemon;
 use guest_script::Event;
@@ -93,8 +95,7 @@ fn large_write(alloc: Global) -> Result<Bytes, NoMemory> {
 }
 
 /// The guest puts, and the store takes in and answers the message in front.
-fn ask(world: &mut World, vault: &mut SureVault) -> Said {
-    let domid = 0;
+fn ask(world: &mut World, vault: &mut SureVault, domid: u16) -> Said {
     let _put = world.step(&Event::Put { domid, max: 1024 }, vault);
     let _took = world.step(&Event::Intake { domid, max: 4112 }, vault);
     world.step(&Event::Do { domid }, vault)
@@ -110,9 +111,9 @@ fn holds_whoever_takes_no_replies(rt: HostRuntime) -> Result<(), Fail> {
     let queued = world.step(&Event::Send { domid, bytes }, &mut vault);
     assert_eq!(rt; queued, Said::Queued(4112));
     for _piece in 0..4 {
-        assert_eq!(rt; ask(&mut world, &mut vault), Said::Part);
+        assert_eq!(rt; ask(&mut world, &mut vault, domid), Said::Part);
     }
-    assert_eq!(rt; ask(&mut world, &mut vault), Said::Done);
+    assert_eq!(rt; ask(&mut world, &mut vault, domid), Said::Done);
     let sent = world.step(&Event::Out { domid, max: 4112 }, &mut vault);
     assert_eq!(rt; sent, Said::Sent(19));
     for _reply in 0..9 {
@@ -121,10 +122,89 @@ fn holds_whoever_takes_no_replies(rt: HostRuntime) -> Result<(), Fail> {
         assert_eq!(rt; queued, Said::Queued(19));
     }
     for _reply in 0..8 {
-        assert_eq!(rt; ask(&mut world, &mut vault), Said::Done);
+        assert_eq!(rt; ask(&mut world, &mut vault, domid), Said::Done);
     }
-    assert_eq!(rt; ask(&mut world, &mut vault), Said::Held { unsent: 32_872 });
+    assert_eq!(rt;
+        ask(&mut world, &mut vault, domid),
+        Said::Held { unsent: 32_872 }
+    );
     let sent = world.step(&Event::Out { domid, max: 4112 }, &mut vault);
     assert_eq!(rt; sent, Said::Sent(1005));
+    Ok(())
+}
+
+/// Domain 0 makes a request of this type.
+fn control(
+    alloc: Global,
+    world: &mut World,
+    vault: &mut SureVault,
+    kind: u8,
+    payload: &[u8],
+) -> Result<Said, NoMemory>
+    requires { length payload.now < 256 }
+{
+    let domid = 0;
+    let len = payload.len() as u8;
+    let head = [kind, 0, 0, 0, 1, 0, 0, 0, 0, 0, 0, 0, len, 0, 0, 0];
+    let mut bytes = Bytes::copy(alloc, &head)?;
+    bytes.push(payload)?;
+    let _queued = world.step(&Event::Send { domid, bytes }, vault);
+    Ok(ask(world, vault, domid))
+}
+
+/// The guest of a domain is in the middle of a message.
+fn send_half(
+    alloc: Global,
+    world: &mut World,
+    vault: &mut SureVault,
+    domid: u16,
+) -> Result<Said, NoMemory> {
+    let bytes = Bytes::copy(alloc, &READ[..10])?;
+    let _queued = world.step(&Event::Send { domid, bytes }, vault);
+    Ok(ask(world, vault, domid))
+}
+
+/// The words of a page at whose rings nothing was moved yet.
+fn fresh_page(start: u32) -> Said {
+    Said::Page {
+        req_cons: start,
+        req_prod: start,
+        rsp_cons: start,
+        rsp_prod: start,
+        error: 0,
+    }
+}
+
+#[test]
+fn gives_each_life_a_fresh_page(rt: HostRuntime) -> Result<(), Fail> {
+    let alloc = rt.alloc();
+    let mut world = new_world(alloc)?;
+    let mut vault = SureVault::new(alloc);
+    world.add_domain(5, 7)?;
+    let page = world.step(&Event::Page { domid: 5 }, &mut vault);
+    assert_eq!(rt; page, fresh_page(7));
+    let made = control(
+        alloc,
+        &mut world,
+        &mut vault,
+        8,
+        &[b'6', 0, b'1', 0, b'2', 0],
+    )?;
+    assert_eq!(rt; made, Said::Done);
+    assert_eq!(rt; send_half(alloc, &mut world, &mut vault, 6)?, Said::Part);
+    let released = control(alloc, &mut world, &mut vault, 9, &[b'6', 0])?;
+    assert_eq!(rt; released, Said::Done);
+    assert_eq!(rt; ask(&mut world, &mut vault, 6), Said::Gone);
+    let again = control(
+        alloc,
+        &mut world,
+        &mut vault,
+        8,
+        &[b'6', 0, b'1', 0, b'2', 0],
+    )?;
+    assert_eq!(rt; again, Said::Done);
+    let page = world.step(&Event::Page { domid: 6 }, &mut vault);
+    assert_eq!(rt; page, fresh_page(0));
+    assert_eq!(rt; ask(&mut world, &mut vault, 6), Said::Part);
     Ok(())
 }

@@ -1,6 +1,6 @@
 //! The world, and its events.
 
-ghost use Rattle.std.specs.Prelude.{◌≡◌, ◌==◌, ◌≤◌, not, List, ℕ, map, take, drop, length, Some, IfOk};
+ghost use Rattle.std.specs.Prelude.{◌≡◌, ◌==◌, ◌≤◌, not, List, ℕ, map, take, drop, length, Some, IfOk, OnOk, OnErr};
 ghost use Rattle.std.specs.Ordering.{nat_cmp};
 ghost use Rattle.std.specs.FinMap.{find, put};
 ghost use Rattle.std.specs.FinMap.Entries.{where_key};
@@ -13,13 +13,13 @@ ghost use Rattle.msg_reassembly.specs.Inboxes.{front_view};
 ghost use Rattle.guest_script.specs.Views.{event_view};
 ghost use Rattle.daemon.specs.Submits.{Drops, Pulled};
 ghost use Rattle.world_core.specs.Guests.{with_page_of};
-ghost use Rattle.world_core.specs.Stands.{Acts, ActsOrNone, Begins, IsBuilt, Steps};
+ghost use Rattle.world_core.specs.Stands.{Acts, ActsOrNone, AddsDomain, Begins, IsBuilt, Steps};
 ghost use Rattle.world_core.specs.Parts.{HasRoom, IsInFront, IsServed, SendsSome};
 
 use crate::guest::{Guest, RING_SIZE};
+use crate::seats::{Seats, connect};
 use daemon::{Daemon, Pull, Submit};
 use guest_script::Event;
-use id_map::IdMap;
 use msg_reassembly::{Front, Ins};
 use ring_index::{BadIndex, Index};
 use std::alloc::Global;
@@ -43,10 +43,7 @@ const BAD_PROTOCOL: u32 = 3;
 pub struct World {
     alloc: Global,
     daemon: Daemon,
-    // By connection.
-    ins: Ins,
-    // By domid, for each domain that ever had a ring connection.
-    guests: IdMap<Guest>,
+    seats: Seats,
     // The bytes of the last take, and how many there are.
     bytes: [u8; 1024],
     count: usize,
@@ -55,41 +52,57 @@ pub struct World {
 }
 
 impl Model for World {
-    ghost use Rattle.std.specs.Prelude.{take, ◌≤◌};
+    ghost use Rattle.std.specs.Prelude.{◌≡◌, ◌≤◌, take, [], IfSome};
     ghost use Rattle.world_core.specs.Stands.{Kept};
 
     ghost Value = { Kept };
 
     ghost view = { λ world. record {
       daemon = world.daemon;
-      inboxes = world.ins;
-      guests = world.guests;
+      inboxes = world.seats.ins.entries;
+      guests = world.seats.guests.entries;
+      rings = world.seats.rings.entries;
       taken = take world.count world.bytes;
     } };
 
-    ghost invariant = { λ world. world.count ≤ 1024 };
+    ghost invariant = { λ world. (world.count ≤ 1024) × IfSome world.seats.spare (λ bytes. bytes ≡ []) };
 }
 
 impl World {
     /// The world of a store and the bytes that it took and has not answered. Each domain with a ring connection
-    /// has a fresh page that starts at 0, and nothing to put.
+    /// has a fresh page that starts at 0, and nothing to put. O(connections).
     pub fn start(alloc: Global, daemon: Daemon, ins: Ins) -> Result<World, NoMemory>
-        requires { map (λ e. e.0) ins ≡ map (λ e. e.0) daemon.unsent }
-        ensures { IfOk result (Begins daemon ins) }
+        requires { map (λ e. e.0) ins.entries ≡ map (λ e. e.0) daemon.unsent }
+        ensures { IfOk result (Begins daemon ins.entries) }
     {
-        let mut guests = IdMap::new(alloc);
-        if daemon.conn_of(0).is_some() {
-            guests.add(0, Guest::fresh(alloc, 0))?;
-        }
+        let mut seats = Seats::new(alloc, ins);
+        seats.seat_all(alloc, daemon.conns())?;
         Ok(World {
             alloc,
             daemon,
-            ins,
-            guests,
+            seats,
             bytes: [0; RING_SIZE],
             count: 0,
             message: [0; MESSAGE_MAX],
         })
+    }
+
+    /// A domain is there with a fresh page whose indices start here, and with nothing to put. It gets a connection
+    /// if it has none. Refused, nothing has changed. O(log domains), and it moves the domains behind it.
+    pub fn add_domain(&mut self, domid: u16, start: u32) -> Result<(), NoMemory>
+        requires { domid ≤ 32751 }
+        ensures ok { OnOk result (AddsDomain self.old domid start self.new) }
+        ensures err { OnErr result (self.new ≡ self.old) }
+    {
+        self.seats.make_room(self.alloc)?;
+        let guest = Guest::fresh(self.alloc, start);
+        if self.daemon.conns().by_domid(domid).is_some() {
+            self.seats.guests.put(u32::from(domid), guest);
+            return Ok(());
+        }
+        let conn = connect(&mut self.daemon, domid)?;
+        self.seats.seat(conn, domid, guest);
+        Ok(())
     }
 
     /// Plays one event and says what came of it. Want of memory may come at `Send` and `Do` alone, and nothing
@@ -132,7 +145,7 @@ impl World {
     fn send(&mut self, domid: u16, bytes: &[u8]) -> Said
         ensures { Steps self.old (SendEvent domid bytes.now) self.new result }
     {
-        let Some(guest) = self.guests.get_mut(u32::from(domid)) else {
+        let Some(guest) = self.seats.guests.get_mut(u32::from(domid)) else {
             return Said::Gone;
         };
         if guest.queue(bytes).is_err() {
@@ -144,7 +157,7 @@ impl World {
     fn put(&mut self, domid: u16, max: u32) -> Said
         ensures { Steps self.old (PutEvent domid max) self.new result }
     {
-        match self.guests.get_mut(u32::from(domid)) {
+        match self.seats.guests.get_mut(u32::from(domid)) {
             None => Said::Gone,
             Some(guest) => Said::Put(guest.put(max)),
         }
@@ -153,7 +166,7 @@ impl World {
     fn take(&mut self, domid: u16, max: u32) -> Said
         ensures { Steps self.old (TakeEvent domid max) self.new result }
     {
-        let Some(guest) = self.guests.get_mut(u32::from(domid)) else {
+        let Some(guest) = self.seats.guests.get_mut(u32::from(domid)) else {
             return Said::Gone;
         };
         self.count = guest.take(max, &mut self.bytes);
@@ -163,7 +176,7 @@ impl World {
     fn poke(&mut self, domid: u16, which: Index, value: u32) -> Said
         ensures { Steps self.old (PokeEvent domid which value) self.new result }
     {
-        let Some(guest) = self.guests.get_mut(u32::from(domid)) else {
+        let Some(guest) = self.seats.guests.get_mut(u32::from(domid)) else {
             return Said::Gone;
         };
         guest.poke(which, value);
@@ -173,7 +186,7 @@ impl World {
     fn page(&self, domid: u16) -> Said
         ensures { Steps self.now (ShowPage domid) self.now result }
     {
-        match self.guests.get(u32::from(domid)) {
+        match self.seats.guests.get(u32::from(domid)) {
             None => Said::Gone,
             Some(guest) => guest.words(),
         }
@@ -229,8 +242,8 @@ impl World {
         ensures { IsServed self.now domid result }
     {
         let conn = self.daemon.conn_of(domid)?;
-        let _guest = self.guests.get(u32::from(domid))?;
-        let _inbox = self.ins.get(conn)?;
+        let _guest = self.seats.guests.get(u32::from(domid))?;
+        let _inbox = self.seats.ins.get(conn)?;
         Some(conn)
     }
 
@@ -238,7 +251,7 @@ impl World {
     fn front(&self, conn: u32) -> Front
         ensures { (bytes : List ℕ) → find nat_cmp conn self.now.inboxes ≡ Some bytes → front_view result ≡ front bytes }
     {
-        match self.ins.get(conn) {
+        match self.seats.ins.get(conn) {
             Some(inbox) => inbox.front(),
             None => Front::Part,
         }
@@ -249,7 +262,7 @@ impl World {
         ensures free { (guest : model_guest) → find nat_cmp domid self.now.guests ≡ Some guest → result ≡ free_unless_bad guest.page.reply }
         ensures within { IfOk result (λ n. n ≤ 1024) }
     {
-        match self.guests.get(u32::from(domid)) {
+        match self.seats.guests.get(u32::from(domid)) {
             Some(guest) => guest.reply_free(),
             None => Ok(0),
         }
@@ -259,10 +272,10 @@ impl World {
     fn take_in(&mut self, conn: u32, domid: u16, max: u32) -> Said
         ensures { Acts self.old domid conn (intake_ring domid max) self.new result }
     {
-        let Some(guest) = self.guests.get_mut(u32::from(domid)) else {
+        let Some(guest) = self.seats.guests.get_mut(u32::from(domid)) else {
             return Said::Gone;
         };
-        let Some(inbox) = self.ins.get_mut(conn) else {
+        let Some(inbox) = self.seats.ins.get_mut(conn) else {
             return Said::Gone;
         };
         match guest.intake(inbox, max) {
@@ -272,35 +285,28 @@ impl World {
     }
 
     /// The message in front, of so many bytes, is one step of the store. It leaves the inbox where the store
-    /// takes it.
+    /// takes it. A domain that gets a connection gets a fresh page and an empty inbox, for which memory is taken
+    /// beforehand; a connection that goes takes its inbox with it, and the page stays.
     fn submit(&mut self, conn: u32, domid: u16, len: usize) -> Said
         requires { IsInFront self.old.inboxes conn len }
         ensures { ActsOrNone self.old domid conn (do_message built_types len) self.new result }
     {
-        let Some(inbox) = self.ins.get(conn) else {
+        if self.seats.make_room(self.alloc).is_err() {
+            return Said::NoMemory;
+        }
+        let Some(inbox) = self.seats.ins.get(conn) else {
             return Said::Gone;
         };
         match self.daemon.submit(conn, &inbox.bytes()[..len]) {
-            Ok(Submit::Done(_)) => {
-                self.skip_front(conn, len);
+            Ok(Submit::Done(door)) => {
+                self.seats.skip_front(&mut self.message, conn, len);
+                self.seats.follow(self.alloc, &self.daemon, door);
                 Said::Done
             }
             Ok(Submit::Held { unsent }) => Said::Held { unsent },
             Ok(Submit::Crowded { conn }) => Said::Crowded { conn },
             Ok(Submit::Gone) => Said::Gone,
             Err(_) => Said::NoMemory,
-        }
-    }
-
-    /// The message in front, of so many bytes, leaves its inbox.
-    fn skip_front(&mut self, conn: u32, len: usize)
-        requires { IsInFront self.old.inboxes conn len }
-        ensures inbox { (bytes : List ℕ) → find nat_cmp conn self.old.inboxes ≡ Some bytes
-            → self.new.inboxes ≡ put nat_cmp conn (drop len bytes) self.old.inboxes }
-        ensures same { (self.new.daemon ≡ self.old.daemon) × (self.new.guests ≡ self.old.guests) }
-    {
-        if let Some(inbox) = self.ins.get_mut(conn) {
-            let _len = inbox.take_front(&mut self.message);
         }
     }
 
@@ -326,9 +332,9 @@ impl World {
         requires { HasRoom self.old.guests domid (length bytes.now) }
         ensures guest { (guest : model_guest) → find nat_cmp domid self.old.guests ≡ Some guest
             → self.new.guests ≡ put nat_cmp domid (with_page_of (with_reply (put_all bytes.now guest.page.reply)) guest) self.old.guests }
-        ensures same { (self.new.daemon ≡ self.old.daemon) × (self.new.inboxes ≡ self.old.inboxes) }
+        ensures same { (self.new.daemon ≡ self.old.daemon) × (self.new.inboxes ≡ self.old.inboxes) × (self.new.rings ≡ self.old.rings) }
     {
-        if let Some(guest) = self.guests.get_mut(u32::from(domid)) {
+        if let Some(guest) = self.seats.guests.get_mut(u32::from(domid)) {
             guest.reply(bytes);
         }
     }
@@ -358,10 +364,11 @@ impl World {
         ensures inbox { self.new.inboxes ≡ where_key nat_cmp (λ c. not (conn == c)) self.old.inboxes }
         ensures guest { (guest : model_guest) → find nat_cmp domid self.old.guests ≡ Some guest
             → self.new.guests ≡ put nat_cmp domid (with_page_of (with_error error) guest) self.old.guests }
+        ensures rings { self.new.rings ≡ self.old.rings }
     {
         self.daemon.drop_conn(conn);
-        self.ins.remove(conn);
-        if let Some(guest) = self.guests.get_mut(u32::from(domid)) {
+        self.seats.ins.remove(conn);
+        if let Some(guest) = self.seats.guests.get_mut(u32::from(domid)) {
             guest.set_error(error);
         }
     }

@@ -4,4 +4,4 @@ use Rattle.world_core.proofs.world.World.drop_for_index.Goals as goal
 
 pub returns : goal.returns
 returns c =
-    drops c.args.self.now c.lose.new.self c.args.domid c.args.conn 2 (DroppedIndex c.args.bad.prod c.args.bad.cons) c.lose.ensures.daemon c.lose.ensures.inbox c.lose.ensures.guest (λ n e. cc)
+    drops c.args.self.now c.lose.new.self c.args.domid c.args.conn 2 (DroppedIndex c.args.bad.prod c.args.bad.cons) c.lose.ensures.daemon c.lose.ensures.inbox c.lose.ensures.guest c.lose.ensures.rings (λ n e. cc)

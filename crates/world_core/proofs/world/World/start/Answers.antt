@@ -1,24 +1,12 @@
-use Rattle.std.proofs.Common.{sym, ap₂, ◌∙◌}
-use Rattle.std.specs.Ordering.{nat_cmp}
-use Rattle.std.specs.FinMap.{put}
-use Rattle.world_core.proofs.BeginLemmas.{begun_with_page, begun_without_page}
-use Rattle.world_core.proofs.world.World.start.Goals.{then-is_some+in_ok-add, else-is_some}
+use Rattle.std.proofs.Common.{refl, ap, ◌∙◌}
+use Rattle.world_model.specs.Worlds.{with_fresh_guests}
+use Rattle.id_map.specs.Maps.{Map}
+use Rattle.world_core.specs.Guests.{ring_domids, with_rings}
+use Rattle.world_core.proofs.BeginLemmas.{begins}
 use Rattle.world_core.proofs.world.World.start.Goals as goal
 
 pub returns : goal.returns
-returns c = record {
-  stands = λ m channels store inboxes unsent order. record {
-    store = store;
-    guests = elim c.if-is_some.branch [
-      | then-is_some+in_ok-add w ↦
-          begun_with_page c.args.daemon m c.conn_of.result store (c.conn_of.ensures m store) (sym c.is_some.ensures ∙ w.if-is_some.true)
-          ∙ sym (w.guests-is ∙ w.in_ok-add.ensures.ok ∙ ap₂ (put nat_cmp 0) w.fresh.ensures c.new-guests.ensures)
-      | else-is_some w ↦
-          begun_without_page c.args.daemon m c.conn_of.result store (c.conn_of.ensures m store) (sym c.is_some.ensures ∙ w.if-is_some.false)
-          ∙ sym (w.guests-is ∙ c.new-guests.ensures)
-    ];
-    inboxes = inboxes;
-    unsent = unsent;
-    order = order;
-  };
-}
+returns c =
+    begins c.args.daemon c.args.ins.entries _ refl (ap (λ (m : Map _). m.entries) (c.in_ok-seat_all.ensures.ins ∙ c.new-seats.ensures.ins))
+    (c.in_ok-seat_all.ensures.guests ∙ ap (λ specs. with_fresh_guests (ring_domids specs) c.new-seats.result.guests.entries) c.conns.ensures.value ∙ ap (with_fresh_guests (ring_domids c.args.daemon.specs)) c.new-seats.ensures.guests)
+    (c.in_ok-seat_all.ensures.rings ∙ ap (λ specs. with_rings specs c.new-seats.result.rings.entries) c.conns.ensures.value ∙ ap (with_rings c.args.daemon.specs) c.new-seats.ensures.rings)
