@@ -1,17 +1,15 @@
 -- What `drive` says of its ends, from what its parts say.
-use Rattle.std.proofs.Common.{◌≡◌, ℕ, ◌≤◌, Bool, true, false, List, [], ◌++◌, length, map, refl, sym, ap, subst, ◌∙◌, Option, Some, None, Result, Ok, Err, IfSome, IsSome}
+use Rattle.std.proofs.Common.{◌≡◌, ℕ, ◌≤◌, true, false, List, [], ◌++◌, length, sym, ap, subst, ◌∙◌, Option, Some, None, Result, Ok, Err, IfSome, IsSome}
 use Rattle.std.proofs.lemmas.Bool.{false≢true}
 use Rattle.std.proofs.lemmas.List.{append-nil}
-use Rattle.std.specs.Io.KnownBytes.{Appends, Consumes, IsAtEnd}
+use Rattle.std.specs.Io.KnownBytes.{Consumes, IsAtEnd}
 use Rattle.xs_model.specs.Requests.{built_types}
 use Rattle.world_model.specs.declared.LineKind.{LineKind}
-use Rattle.world_model.specs.Worlds.{new_world}
 use Rattle.world_model.specs.Scripts.{Script, LineFault, script_of}
-use Rattle.world_model.specs.Transcripts.{lines_from, transcript_of}
+use Rattle.world_model.specs.Transcripts.{script_lines, transcript_of}
 use Rattle.world_laws.proofs.ScriptLemmas.{transcript_left}
-use Rattle.program_io.specs.Ends.{AppendsFront, input_limit}
+use Rattle.program_io.specs.Ends.{input_limit}
 use Rattle.xs_drive.specs.Ends.{IsPlayable, HidesHandovers, IsUnbuilt, IsFaulty, is_unbuilt, transcript}
-use Rattle.xs_drive.proofs.FormLemmas.{starts_new}
 
 -- what holds of a text that was read to its end holds of what the source had left
 pub of_whole : (old new : Option (List ℕ)) (text : List ℕ) (P : List ℕ → Type 0) → Consumes old new text → IsAtEnd new → P text → IfSome old P
@@ -53,9 +51,9 @@ not_faulty text line kind is playable = absurd (ok_or_err (sym playable.reads �
     ok_or_err e = cc
 
 -- THE TRANSCRIPT of a text that is played
-pub transcript_is : (slice text : List ℕ) (script : Script) → slice ≡ text → script_of slice ≡ Ok script → is_unbuilt script ≡ false → lines_from built_types new_world script.events [] ≡ transcript text
-transcript_is slice text script whole reads built =
-    sym (ap (λ r. transcript_of built_types r []) (ap script_of (sym whole) ∙ reads) ∙ ap (λ w. lines_from built_types w script.events []) (starts_new script built))
+pub transcript_is : (slice text : List ℕ) (script : Script) → slice ≡ text → script_of slice ≡ Ok script → script_lines built_types script [] ≡ transcript text
+transcript_is slice text script whole reads =
+    sym (ap (λ r. transcript_of built_types r []) (ap script_of (sym whole) ∙ reads))
 
 pub hides : (text : List ℕ) → IsPlayable text → HidesHandovers text
 hides text playable = transcript_left built_types text playable.script [] playable.reads

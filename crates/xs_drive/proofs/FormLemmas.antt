@@ -1,15 +1,14 @@
 -- Which scripts and events this version knows.
-use Rattle.std.proofs.Common.{◌≡◌, ℕ, ◌+◌, ◌<◌, ◌≤◌, ◌||◌, Bool, true, false, List, [], ◌∷◌, length, map, get_or, drop, Option, Some, None, is_some, refl, sym, ap, subst, ◌∙◌}
+use Rattle.std.proofs.Common.{◌≡◌, ℕ, ◌+◌, ◌<◌, ◌||◌, Bool, true, false, List, [], ◌∷◌, length, map, get_or, drop, is_some, refl, sym, ap, ◌∙◌}
 use Rattle.std.proofs.lemmas.Bool.{false≢true}
 use Rattle.std.specs.List.{list_any, AllByRecursion}
-use Rattle.world_model.specs.Worlds.{World, Event, Send, Put, Intake, Do, Out, Take, Poke, ShowPage, Handover, new_world}
-use Rattle.world_model.specs.Scripts.{Script, DomainLine}
-use Rattle.world_model.specs.Transcripts.{with_domains}
+use Rattle.world_model.specs.Worlds.{Event, Send, Put, Intake, Do, Out, Take, Poke, ShowPage, Handover}
+use Rattle.world_model.specs.Scripts.{Script}
 use Rattle.guest_script.specs.declared.event.Event.{Event as CodeEvent}
 use Rattle.guest_script.specs.Views.{event_view}
 use Rattle.guest_script.specs.Drafts.{IsSoundEvent}
 use Rattle.world_core.specs.Stands.{IsBuilt}
-use Rattle.xs_drive.specs.Ends.{is_unbuilt_event, is_unbuilt, has_lines}
+use Rattle.xs_drive.specs.Ends.{is_unbuilt_event, is_unbuilt}
 use Rattle.xs_drive.proofs.PlayLemmas.{split_at}
 
 -- one event decides, or those behind it do
@@ -47,15 +46,4 @@ all_built (e ∷ es) sound built =
 
 pub events_built : (script : Script) → AllByRecursion IsSoundEvent script.events → is_unbuilt script ≡ false → AllByRecursion IsBuilt script.events
 events_built script sound built =
-    let head = neither (is_some script.resume) (has_lines script.domains || list_any is_unbuilt_event script.events) built in
-    all_built script.events sound (neither (has_lines script.domains) (list_any is_unbuilt_event script.events) head.1).1
-
-no_lines : (lines : List DomainLine) → has_lines lines ≡ false → with_domains lines new_world ≡ new_world
-no_lines [] h = refl
-no_lines (line ∷ lines) h = absurd (false≢true (sym h))
-
--- it starts with a new world
-pub starts_new : (script : Script) → is_unbuilt script ≡ false → with_domains script.domains new_world ≡ new_world
-starts_new script built =
-    let head = neither (is_some script.resume) (has_lines script.domains || list_any is_unbuilt_event script.events) built in
-    no_lines script.domains (neither (has_lines script.domains) (list_any is_unbuilt_event script.events) head.1).0
+    all_built script.events sound (neither (is_some script.resume) (list_any is_unbuilt_event script.events) built).1

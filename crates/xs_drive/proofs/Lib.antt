@@ -1,3 +1,4 @@
 pub mod PlayLemmas
+pub mod StartLemmas
 pub mod FormLemmas
 pub mod DriveLemmas

@@ -1,19 +1,18 @@
 -- The lines of events, one after the other, through a buffer.
-use Rattle.std.proofs.Common.{◌≡◌, ℕ, zero, suc, ◌+◌, ◌<◌, ◌≤◌, Bool, true, false, cond, List, [], ◌∷◌, ◌++◌, length, map, get_or, take, drop, Result, Ok, Err, is_err, OnOk, OnErr, Option, Some, None, inl, inr, refl, sym, ap, ap₂, subst, ◌∙◌, append_assoc, arith, le_of_suc-le-suc}
+use Rattle.std.proofs.Common.{◌≡◌, ℕ, zero, suc, ◌+◌, ◌<◌, ◌≤◌, Bool, true, false, List, [], ◌∷◌, ◌++◌, length, map, get_or, take, drop, Result, Ok, Err, is_err, OnOk, OnErr, Option, inl, inr, refl, sym, ap, subst, ◌∙◌, append_assoc, arith, le_of_suc-le-suc}
 use Rattle.std.proofs.lemmas.List.{append-nil, take-append-drop, drop_all, drop_more, length-map, get_or-map}
 use Rattle.std.proofs.lemmas.Bool.{false≢true}
 use Rattle.std.specs.List.{AllByRecursion}
-use Rattle.std.specs.Io.KnownBytes.{Appends}
 use Rattle.xs_model.specs.Requests.{built_types}
 use Rattle.world_model.specs.declared.Said.{Said}
 use Rattle.world_model.specs.declared.Said.TheVariants as said
 use Rattle.world_model.specs.Worlds.{World, Event, Send, Put, Intake, Do, Out, Take, Poke, ShowPage, Handover, event_with}
-use Rattle.world_model.specs.Transcripts.{said_words, event_words, spaced, said_line, said_among, says_after, event_line, lines_from}
+use Rattle.world_model.specs.Transcripts.{said_words, event_words, spaced, said_line, said_among, says_after, lines_from}
 use Rattle.guest_script.specs.declared.event.Event.{Event as CodeEvent}
 use Rattle.guest_script.specs.Views.{event_view}
-use Rattle.program_io.specs.Ends.{AppendsBut, AppendsFront}
-use Rattle.world_core.specs.Stands.{Kept, StandsFor, Follows, FoundNone, IsBuilt, Steps}
-use Rattle.xs_drive.specs.Play.{line_in, PrintsIn, Prints, PrintsFront}
+use Rattle.program_io.specs.Ends.{AppendsBut}
+use Rattle.world_core.specs.Stands.{Kept, StandsFor, Follows, IsBuilt, Steps}
+use Rattle.xs_drive.specs.Play.{line_in, Prints, PrintsFront}
 
 -- THE LINE of an event that is no handover is that of what it says
 said_plain : (e : Event) (s : Said) → IsBuilt e → said_among e [] s ≡ s
@@ -151,3 +150,12 @@ of_is_err (Err e) b P is err says = says
 pub of_is_ok : {T E : Type 0} (r : Result T E) (b : Bool) (P : Type 0) → b ≡ is_err r → b ≡ false → OnOk r P → P
 of_is_ok (Ok x) b P is ok says = says
 of_is_ok (Err e) b P is ok says = absurd (false≢true (sym ok ∙ is))
+
+-- what follows from what an answer says
+pub on_ok : {T E : Type 0} (r : Result T E) (P Q : Type 0) → (P → Q) → OnOk r P → OnOk r Q
+on_ok (Ok x) P Q f says = f says
+on_ok (Err e) P Q f says = says
+
+pub on_err : {T E : Type 0} (r : Result T E) (P Q : Type 0) → (P → Q) → OnErr r P → OnErr r Q
+on_err (Ok x) P Q f says = says
+on_err (Err e) P Q f says = f says

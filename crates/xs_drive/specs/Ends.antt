@@ -1,12 +1,12 @@
 -- What `drive` says of its ends. This project's own.
-use Rattle.std.specs.Prelude.{◌≡◌, ℕ, ◌≤◌, Bool, true, false, ◌||◌, List, [], ◌∷◌, length, Option, Some, None, is_some, Result, Ok, Err, codes}
+use Rattle.std.specs.Prelude.{◌≡◌, ℕ, ◌≤◌, Bool, true, false, ◌||◌, List, [], ◌∷◌, length, is_some, Ok, Err, codes}
 use Rattle.std.specs.List.{list_any}
 use Rattle.std.specs.Str.{bytes_eq}
 use Rattle.program_io.specs.Ends.{input_limit}
 use Rattle.xs_model.specs.Requests.{built_types}
 use Rattle.world_model.specs.declared.LineKind.{LineKind}
 use Rattle.world_model.specs.Worlds.{Event, Send, Put, Intake, Do, Out, Take, Poke, ShowPage, Handover}
-use Rattle.world_model.specs.Scripts.{Script, DomainLine, script_of}
+use Rattle.world_model.specs.Scripts.{Script, script_of}
 use Rattle.world_model.specs.Transcripts.{transcript_with}
 use Rattle.world_laws.specs.Handovers.{without_handover_lines, without_handover_requests}
 
@@ -16,7 +16,7 @@ is_run [] = false
 is_run (word ∷ []) = bytes_eq word (codes "run")
 is_run (word ∷ other ∷ words) = false
 
--- FOR A TIME: a script asks for what is not built, a stream to resume, domains, pokes and handovers
+-- FOR A TIME: a script asks for what is not built, a stream to resume, pokes and handovers
 abbrev pub is_unbuilt_event : Event → Bool
 is_unbuilt_event (Send d bytes) = false
 is_unbuilt_event (Put d max) = false
@@ -28,12 +28,8 @@ is_unbuilt_event (Poke d which v) = true
 is_unbuilt_event (ShowPage d) = false
 is_unbuilt_event Handover = true
 
-abbrev pub has_lines : List DomainLine → Bool
-has_lines [] = false
-has_lines (line ∷ lines) = true
-
 abbrev pub is_unbuilt : Script → Bool
-is_unbuilt script = is_some script.resume || (has_lines script.domains || list_any is_unbuilt_event script.events)
+is_unbuilt script = is_some script.resume || list_any is_unbuilt_event script.events
 
 -- the text is a script that this version plays
 pub record IsPlayable (text : List ℕ) : Type 0 where

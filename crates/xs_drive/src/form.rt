@@ -18,7 +18,7 @@ pub fn is_run(words: &[String]) -> bool
 pub fn is_unbuilt(script: &Script) -> bool
     ensures { result ≡ is_unbuilt (script_view script.now) }
 {
-    script.resume.is_some() || !script.domains.is_empty() || has_unbuilt(&script.events)
+    script.resume.is_some() || has_unbuilt(&script.events)
 }
 
 /// Whether one of the events is not built yet.

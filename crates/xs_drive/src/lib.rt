@@ -88,7 +88,7 @@ pub fn drive<S: Source, K: Sink, V: Vault>(
     if is_unbuilt(&script) {
         return Status::Unbuilt;
     }
-    match play(alloc, &script.events, out, vault) {
+    match play(alloc, &script, out, vault) {
         Ok(()) => Status::Done,
         Err(PlayFault::WriteFault) => Status::WriteFault,
         Err(PlayFault::NoMemory) => Status::NoMemory,

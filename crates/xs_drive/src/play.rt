@@ -6,15 +6,16 @@ ghost use Rattle.std.specs.List.{AllByRecursion};
 ghost use Rattle.xs_base.specs.Faults.{NeverFalls, Rose};
 ghost use Rattle.xs_model.specs.Requests.{built_types};
 ghost use Rattle.world_model.specs.Worlds.{new_world};
-ghost use Rattle.world_model.specs.Transcripts.{lines_from};
-ghost use Rattle.guest_script.specs.Views.{event_view};
+ghost use Rattle.world_model.specs.Transcripts.{script_lines, with_domains};
+ghost use Rattle.guest_script.specs.Views.{domain_view, event_view, script_view};
+ghost use Rattle.guest_script.specs.Drafts.{IsSoundDomain};
 ghost use Rattle.program_io.specs.Ends.{AppendsFront};
 ghost use Rattle.world_core.specs.Stands.{IsBuilt, StandsFor};
 ghost use Rattle.xs_drive.specs.Play.{Prints, PrintsFront};
 ghost use Rattle.xs_drive.specs.declared.play.PlayFault.TheVariants.{NoMemory as no_memory, WriteFault as write_fault};
 
 use daemon::Daemon;
-use guest_script::{Event, Events, print_said};
+use guest_script::{DomainLines, Event, Script, print_said};
 use msg_reassembly::{Inbox, Ins};
 use program_io::{write_all, write_if_many};
 use std::alloc::Global;
@@ -47,25 +48,26 @@ impl From<Failed> for PlayFault {
     }
 }
 
-/// Plays the events in a new world, and writes the line of each, through one buffer whose size does not grow with
-/// their number. Refused, a front of the lines was written: where no memory was found, the lines of all events so
-/// far, as far as the sink took them.
+/// Plays the events of a script in the world of its head lines, and writes the line of each, through one buffer whose
+/// size does not grow with their number. Refused, a front of the lines was written: where no memory was found, the
+/// lines of all events so far, as far as the sink took them.
 pub fn play<K: Sink, V: Vault>(
     alloc: Global,
-    events: &Events,
+    script: &Script,
     out: &mut K,
     vault: &mut V,
 ) -> Result<(), PlayFault>
-    requires { AllByRecursion IsBuilt (map event_view events.now) }
-    ensures ok { OnOk result (Appends (K.written out.old) (K.written out.new) (lines_from built_types new_world (map event_view events.now) [])) }
-    ensures front { AppendsFront (K.written out.old) (K.written out.new) (lines_from built_types new_world (map event_view events.now) []) }
+    requires events { AllByRecursion IsBuilt (map event_view script.now.events) }
+    requires domains { AllByRecursion IsSoundDomain (map domain_view script.now.domains) }
+    ensures ok { OnOk result (Appends (K.written out.old) (K.written out.new) (script_lines built_types (script_view script.now) [])) }
+    ensures front { AppendsFront (K.written out.old) (K.written out.new) (script_lines built_types (script_view script.now) []) }
     ensures failed { result ≡ Err PlayFault.WriteFault → Rose (K.faults out.old) (K.faults out.new) }
     ensures counts { NeverFalls (K.faults out.old) (K.faults out.new) }
     ensures vault { vault.new ≡ vault.old }
 {
-    let mut world = new_world(alloc)?;
+    let mut world = start_world(alloc, &script.domains)?;
     let mut lines = Bytes::new(alloc);
-    for event in events.as_slice() {
+    for event in script.events.as_slice() {
         if print_step(&mut world, event, vault, &mut lines).is_err() {
             let _written = write_all(out, lines.as_slice());
             return Err(PlayFault::NoMemory);
@@ -74,6 +76,18 @@ pub fn play<K: Sink, V: Vault>(
     }
     write_all(out, lines.as_slice())?;
     Ok(())
+}
+
+/// The world of a new store with the domains of a script's head lines.
+fn start_world(alloc: Global, domains: &DomainLines) -> Result<World, NoMemory>
+    requires { AllByRecursion IsSoundDomain (map domain_view domains.now) }
+    ensures { IfOk result (λ world. StandsFor world (with_domains (map domain_view domains.now) new_world)) }
+{
+    let mut world = new_world(alloc)?;
+    for line in domains.as_slice() {
+        world.add_domain(line.domid, line.start)?;
+    }
+    Ok(world)
 }
 
 /// The world of a new store, where domain 0 alone is connected.

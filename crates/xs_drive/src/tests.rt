@@ -53,7 +53,12 @@ fn plays_worked_scripts(rt: HostRuntime) -> Result<(), Fail> {
              take 0 -\npage 0 16 16 0 0 3\nput 1 gone\n",
         ),
         ("handover\n", Status::Unbuilt, ""),
-        ("domain 1 at 0\n", Status::Unbuilt, ""),
+        ("poke 0 req_prod 1\n", Status::Unbuilt, ""),
+        (
+            "domain 1 at 9\npage 1\nput 2 1",
+            Status::Done,
+            "page 1 9 9 9 9 0\nput 2 gone\n",
+        ),
     ];
     for (script, status, transcript) in cases {
         let (got, written) = played(rt.alloc(), script.as_bytes(), false, false)?;

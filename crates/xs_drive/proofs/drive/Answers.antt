@@ -1,12 +1,12 @@
-use Rattle.std.proofs.Common.{◌≡◌, ◌≤◌, false, true, List, ℕ, length, subst, sym, ◌∙◌}
+use Rattle.std.proofs.Common.{sym, ◌∙◌}
 use Rattle.guest_script.specs.Views.{script_view}
 use Rattle.xs_drive.specs.Ends.{HidesHandovers, IsPlayable, IsUnbuilt}
 use Rattle.xs_drive.proofs.DriveLemmas.{of_whole, playable, unbuilt, hides}
 use Rattle.xs_drive.proofs.FormLemmas.{events_built}
 use Rattle.xs_drive.proofs.drive.Goals as goal
 
-pub play-requires : goal.play-requires
-play-requires g c =
+pub play-requires-clause-events : goal.play-requires-clause-events
+play-requires-clause-events g c =
     events_built (script_view c.in-Ok-read_script.script) c.in-Ok-read_script.ensures.sound (sym c.is_unbuilt.ensures ∙ c.if-is_unbuilt.false)
 
 pub returns-then-is_unbuilt-clause-unbuilt : goal.returns-then-is_unbuilt-clause-unbuilt
