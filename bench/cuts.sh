@@ -3,11 +3,8 @@
 # sent and taken one at a time, and in pieces of 1000: instructions per event. And `out 0 1` with its `take 0 1`, where
 # 30000 bytes of replies wait and where 1000 do. Wants valgrind.
 set -eu
-here=$(cd "$(dirname "$0")/.." && pwd)
+. "$(dirname "$0")/common.sh"
 printf '' | "$here/bin/xslu" run
-program=$here/crates/xslu/out/xslu
-work=$(mktemp -d)
-trap 'rm -rf "$work"' EXIT
 
 script() { # script KIND COUNT
   python3 - "$1" "$2" <<'PY'
@@ -40,21 +37,16 @@ else:
 PY
 }
 
-instructions() { # instructions SCRIPT
-  valgrind --tool=callgrind --callgrind-out-file=/dev/null "$program" run <"$1" 2>&1 >/dev/null |
-    sed -n 's/.*Collected : \([0-9]*\).*/\1/p'
-}
-
 for kind in bytes pieces; do
   for n in 2000 4000; do
     script "$kind" "$n" >"$work/script"
-    events=$("$program" run <"$work/script" | wc -l)
-    echo "$kind, $n messages: $(($(instructions "$work/script") / events)) instructions per event"
+    events=$("$xslu" run <"$work/script" | wc -l)
+    echo "$kind, $n messages: $(($(instructions "$xslu" run "$work/script") / events)) instructions per event"
   done
 done
 for kind in many few; do
   script "$kind" 0 >"$work/none"
   script "$kind" 900 >"$work/script"
-  cost=$((($(instructions "$work/script") - $(instructions "$work/none")) / 900))
+  cost=$((($(instructions "$xslu" run "$work/script") - $(instructions "$xslu" run "$work/none")) / 900))
   echo "out 0 1 and take 0 1, $kind bytes waiting: $cost instructions"
 done

@@ -4,11 +4,8 @@
 # Prints instructions per READ of one guest (its five events and their lines), and per INTRODUCE with the RELEASE of the
 # same domain. Wants valgrind.
 set -eu
-here=$(cd "$(dirname "$0")/.." && pwd)
+. "$(dirname "$0")/common.sh"
 printf '' | "$here/bin/xslu" run
-program=$here/crates/xslu/out/xslu
-work=$(mktemp -d)
-trap 'rm -rf "$work"' EXIT
 
 script() { # script DOMAINS REQUEST COUNT
   python3 - "$1" "$2" "$3" <<'PY'
@@ -32,16 +29,11 @@ for _ in range(count):
 PY
 }
 
-instructions() { # instructions SCRIPT
-  valgrind --tool=callgrind --callgrind-out-file=/dev/null "$program" run <"$1" 2>&1 >/dev/null |
-    sed -n 's/.*Collected : \([0-9]*\).*/\1/p'
-}
-
 for request in READ INTRODUCE; do
   for domains in 1 100 1000; do
     script "$domains" "$request" 0 >"$work/none"
     script "$domains" "$request" 1000 >"$work/script"
-    cost=$((($(instructions "$work/script") - $(instructions "$work/none")) / 1000))
+    cost=$((($(instructions "$xslu" run "$work/script") - $(instructions "$xslu" run "$work/none")) / 1000))
     echo "$domains domains, $request: $cost instructions"
   done
 done

@@ -3,11 +3,8 @@
 # order, the second half READ of them in another order. Prints requests per second and, where valgrind is there,
 # instructions per request; what the program costs on an empty script is taken off.
 set -eu
-here=$(cd "$(dirname "$0")/.." && pwd)
+. "$(dirname "$0")/common.sh"
 printf '' | "$here/bin/xslu" run
-program=$here/crates/xslu/out/xslu
-work=$(mktemp -d)
-trap 'rm -rf "$work"' EXIT
 
 script() { # script MESSAGES
   python3 - "$1" <<'PY'
@@ -24,23 +21,17 @@ for i in range(half):
 PY
 }
 
-instructions() { # instructions SCRIPT
-  valgrind --tool=none --log-file=/dev/null true 2>/dev/null || return 1
-  valgrind --tool=callgrind --callgrind-out-file=/dev/null "$program" run <"$1" 2>&1 >/dev/null |
-    sed -n 's/.*Collected : \([0-9]*\).*/\1/p'
-}
-
 : >"$work/empty"
-base=$(instructions "$work/empty" || true)
+base=$(instructions "$xslu" run "$work/empty" || true)
 for n in 1000 10000; do
   script "$n" >"$work/$n"
   begin=$(date +%s%N)
-  "$program" run <"$work/$n" >"$work/out"
+  "$xslu" run <"$work/$n" >"$work/out"
   end=$(date +%s%N)
   test "$(grep -c done "$work/out")" = "$n"
   echo "$n messages: $((n * 1000000000 / (end - begin))) requests per second"
   if [ -n "$base" ]; then
-    all=$(instructions "$work/$n")
+    all=$(instructions "$xslu" run "$work/$n")
     echo "$n messages: $(((all - base) / n)) instructions per request"
   fi
 done

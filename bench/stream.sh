@@ -2,10 +2,7 @@
 # What a record costs the viewer: streams of 1000 and 10000 nodes of its own making. Prints records per second and,
 # where valgrind is there, instructions per record; what the program costs on an empty stream is taken off.
 set -eu
-here=$(cd "$(dirname "$0")/.." && pwd)
-program=$here/crates/xsstream/out/xsstream
-work=$(mktemp -d)
-trap 'rm -rf "$work"' EXIT
+. "$(dirname "$0")/common.sh"
 
 stream() { # stream NODES
   python3 - "$1" <<'PY'
@@ -23,24 +20,18 @@ sys.stdout.buffer.write(out + record(0, b""))
 PY
 }
 
-instructions() { # instructions STREAM
-  valgrind --tool=none --log-file=/dev/null true 2>/dev/null || return 1
-  valgrind --tool=callgrind --callgrind-out-file=/dev/null "$program" raw <"$1" 2>&1 >/dev/null |
-    sed -n 's/.*Collected : \([0-9]*\).*/\1/p'
-}
-
 stream 0 >"$work/empty"
 "$here/bin/xsstream" raw <"$work/empty" >/dev/null
-base=$(instructions "$work/empty" || true)
+base=$(instructions "$xsstream" raw "$work/empty" || true)
 for n in 1000 10000; do
   stream "$n" >"$work/$n"
   begin=$(date +%s%N)
-  "$program" raw <"$work/$n" >"$work/out"
+  "$xsstream" raw <"$work/$n" >"$work/out"
   end=$(date +%s%N)
   test "$(grep -c ' node conn ' "$work/out")" = "$n"
   echo "$n nodes: $((n * 1000000000 / (end - begin))) records per second"
   if [ -n "$base" ]; then
-    all=$(instructions "$work/$n")
+    all=$(instructions "$xsstream" raw "$work/$n")
     echo "$n nodes: $(((all - base) / n)) instructions per record"
   fi
 done

@@ -3,11 +3,8 @@
 # them. Prints instructions per READ, DIRECTORY of the folder of 100, MKDIR of a new node, and RM of a folder by the
 # number of its nodes. Wants valgrind.
 set -eu
-here=$(cd "$(dirname "$0")/.." && pwd)
+. "$(dirname "$0")/common.sh"
 printf '' | "$here/bin/xslu" run
-program=$here/crates/xslu/out/xslu
-work=$(mktemp -d)
-trap 'rm -rf "$work"' EXIT
 
 script() { # script NODES COMMAND
   python3 - "$1" "$2" <<'PY'
@@ -38,17 +35,12 @@ if command == "RM":
 PY
 }
 
-instructions() { # instructions SCRIPT
-  valgrind --tool=callgrind --callgrind-out-file=/dev/null "$program" run <"$1" 2>&1 >/dev/null |
-    sed -n 's/.*Collected : \([0-9]*\).*/\1/p'
-}
-
 for n in 1000 10000; do
   script "$n" none >"$work/script"
-  base=$(instructions "$work/script")
+  base=$(instructions "$xslu" run "$work/script")
   for command in READ:1000 DIRECTORY:100 MKDIR:100 "RM:$n"; do
     script "$n" "${command%:*}" >"$work/script"
-    cost=$((($(instructions "$work/script") - base) / ${command#*:}))
+    cost=$((($(instructions "$xslu" run "$work/script") - base) / ${command#*:}))
     echo "$n nodes, ${command%:*}: $cost instructions"
   done
 done
