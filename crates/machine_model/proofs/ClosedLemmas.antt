@@ -13,14 +13,15 @@ use Rattle.xs_model.specs.Messages.{string, ok_payload, header_of, payload_of}
 use Rattle.xs_model.specs.Requests.{Operation, Request, Command, Watch as WatchRequest, Unwatch, Start, End, Introduce, Release, DomainPath, IsIntroduced, SetTarget, ResetWatches, request_of}
 use Rattle.xs_model.specs.Commands.{Outcome, command}
 use Rattle.xs_model.specs.Changes.{changed_paths}
+use Rattle.xs_model.specs.Generations.{generation_of}
 use Rattle.xs_model.specs.Watches.{Watch, same_watch, first_event}
 use Rattle.xs_model.proofs.FormLemmas.{IfAsked}
 use Rattle.xs_model.proofs.Maps.{all_found, all_put, all_where, all_map}
 use Rattle.machine_model.specs.declared.ConnSpec.{ConnSpec}
 use Rattle.machine_model.specs.declared.ConnSpec.TheVariants.{Ring}
 use Rattle.machine_model.specs.Connections.{Connection, Connections, fresh, caller_of, ring_of, has_ring, with_evtchn, with_target, least_free}
-use Rattle.machine_model.specs.Transactions.{Transaction, Ran, started, run_on, wrote, is_in_conflict, with_command}
-use Rattle.machine_model.specs.Machine.{Machine, Item, Asked, Lost, Done, refused, replied, granted, with_conn, without_conn, with_watches, with_transaction, without_transaction, with_spec, told, tell, changed_machine, done_command, command_inside, run_command, transaction_limit, start, committed, finish, close, may_watch, add_watch, remove_watch, if_control, set_spec, introduce, release, set_target, act, act_or_refuse, step_of_conn, step_with}
+use Rattle.machine_model.specs.Transactions.{Transaction, Ran, started, outcome_on, count, run_on, wrote, is_in_conflict, with_command}
+use Rattle.machine_model.specs.Machine.{Machine, Item, Asked, Lost, Done, refused, replied, granted, with_conn, without_conn, with_watches, with_transaction, without_transaction, with_spec, told, tell, changed_machine, ran_by, done_command, command_inside, run_command, transaction_limit, start, committed, finish, close, may_watch, add_watch, remove_watch, if_control, set_spec, introduce, release, set_target, act, act_or_refuse, step_of_conn, step_with}
 
 -- of the tree, of a connection, and of a request
 module _ (OfTree : Tree → Type 0) (OfConn : Connection → Type 0) (OfRequest : Request → Type 0) where
@@ -31,10 +32,10 @@ module _ (OfTree : Tree → Type 0) (OfConn : Connection → Type 0) (OfRequest 
   -- what the parts of a step keep
   pub record IsClosed : Type 0 where
     pub of_told : (paths : List Path) (conn : Connection) → OfConn conn → OfConn (told paths conn)
-    pub of_command : (operation : Operation) (path : Path) (conn : Connection) (tree : Tree) → OfRequest (Command operation path) → OfTree tree → OfTree (command operation path (caller_of conn.spec) tree).tree
+    pub of_command : (operation : Operation) (path : Path) (conn : Connection) (number : ℕ) (tree : Tree) → OfRequest (Command operation path) → OfTree tree → OfTree (command operation path (caller_of conn.spec) number tree).tree
     pub of_commit : (conn : Connection) (id : ℕ) (t : Transaction) (tree : Tree) → OfConn conn → find nat_cmp id conn.transactions ≡ Some t → OfTree tree → OfTree (run_on tree t).tree
-    pub inside : (operation : Operation) (path : Path) (conn : Connection) (id : ℕ) (t : Transaction) → OfRequest (Command operation path) → OfConn conn → find nat_cmp id conn.transactions ≡ Some t
-        → OfConn (with_transaction id (with_command (record { operation = operation; path = path; caller = caller_of conn.spec }) t) conn)
+    pub inside : (operation : Operation) (path : Path) (conn : Connection) (number id : ℕ) (t : Transaction) → OfRequest (Command operation path) → OfConn conn → find nat_cmp id conn.transactions ≡ Some t
+        → OfConn (with_transaction id (with_command (ran_by conn operation path number) t) conn)
     pub opened : (conn : Connection) (tree : Tree) → OfConn conn → nat_le (transaction_limit conn.spec) (length conn.transactions) ≡ false → OfConn (with_transaction (least_free conn.transactions) (started tree) conn)
     pub closed : (conn : Connection) (id : ℕ) → OfConn conn → OfConn (without_transaction id conn)
     pub watched : (conn : Connection) (wpath token : List ℕ) → OfConn conn → OfRequest (WatchRequest wpath token) → may_watch conn ≡ true → OfConn (with_watches (conn.watches ++ record { wpath = wpath; token = token } ∷ []) conn)
@@ -64,16 +65,16 @@ module _ (OfTree : Tree → Type 0) (OfConn : Connection → Type 0) (OfRequest 
 
     module _ (m : Machine) (has : Has m) (c : ℕ) (conn : Connection) (h : OfConn conn) where
       inside_has : (operation : Operation) (path : Path) (id : ℕ) (found : Option Transaction) → OfRequest (Command operation path) → find nat_cmp id conn.transactions ≡ found
-          → Has (command_inside m c conn id (record { operation = operation; path = path; caller = caller_of conn.spec }) found).machine
+          → Has (command_inside m c conn id operation path found).machine
       inside_has operation path id None asks e = has
-      inside_has operation path id (Some t) asks e = with_conn_has m has c _ (keeps.inside operation path conn id t asks h e)
+      inside_has operation path id (Some t) asks e = with_conn_has m has c _ (keeps.inside operation path conn (count t) id t asks h e)
 
-      command_has : (operation : Operation) (path : Path) (tx : ℕ) → OfRequest (Command operation path) → Has (run_command m c conn tx (record { operation = operation; path = path; caller = caller_of conn.spec })).machine
+      command_has : (operation : Operation) (path : Path) (tx : ℕ) → OfRequest (Command operation path) → Has (run_command m c conn tx operation path).machine
       command_has operation path tx asks =
-          let ran : Ran = record { operation = operation; path = path; caller = caller_of conn.spec } in
-          let outcome : Outcome = command operation path (caller_of conn.spec) m.tree in
-          if_has (tx == 0) (done_command m outcome) (command_inside m c conn tx ran (find nat_cmp tx conn.transactions))
-          (λ e. change_has m has outcome.tree outcome.written (keeps.of_command operation path conn m.tree asks has.tree))
+          let number = generation_of m.gens path in
+          let outcome : Outcome = outcome_on m.tree (ran_by conn operation path number) in
+          if_has (tx == 0) (done_command m outcome) (command_inside m c conn tx operation path (find nat_cmp tx conn.transactions))
+          (λ e. change_has m has outcome.tree outcome.written (keeps.of_command operation path conn number m.tree asks has.tree))
           (λ e. inside_has operation path tx (find nat_cmp tx conn.transactions) asks refl)
 
       start_has : (tx : ℕ) → Has (start m c conn tx).machine

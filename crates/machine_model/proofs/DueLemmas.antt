@@ -11,14 +11,15 @@ use Rattle.xs_model.specs.declared.message.WireErr.TheVariants.{Eacces, Eexist, 
 use Rattle.xs_model.specs.Paths.{Path}
 use Rattle.xs_model.specs.Trees.{Tree}
 use Rattle.xs_model.specs.Messages.{string, ok_payload}
-use Rattle.xs_model.specs.Requests.{Request, Command, Watch as WatchRequest, Unwatch, Start, End, Introduce, Release, DomainPath, IsIntroduced, SetTarget, ResetWatches, introduce_domain, release_domain}
-use Rattle.xs_model.specs.Commands.{Outcome, command}
+use Rattle.xs_model.specs.Requests.{Operation, Request, Command, Watch as WatchRequest, Unwatch, Start, End, Introduce, Release, DomainPath, IsIntroduced, SetTarget, ResetWatches, introduce_domain, release_domain}
+use Rattle.xs_model.specs.Commands.{Outcome}
 use Rattle.xs_model.specs.Changes.{changed_paths}
 use Rattle.xs_model.specs.Watches.{Watch, same_watch, first_event}
 use Rattle.machine_model.specs.declared.ConnSpec.TheVariants.{Ring}
 use Rattle.machine_model.specs.Connections.{Connection, fresh, caller_of, ring_of, has_ring, least_free}
-use Rattle.machine_model.specs.Transactions.{Transaction, Ran, started, run_on, wrote, is_in_conflict}
-use Rattle.machine_model.specs.Machine.{Machine, Done, Send, refused, replied, granted, with_conn, without_conn, with_watches, with_transaction, without_transaction, tell, changed_machine, change_sends, special_sends, done_command, command_inside, run_command, transaction_limit, start, committed, finish, close, may_watch, add_watch, remove_watch, if_control, introduce, release, set_target, act, act_or_refuse}
+use Rattle.xs_model.specs.Generations.{generation_of}
+use Rattle.machine_model.specs.Transactions.{Transaction, started, outcome_on, run_on, wrote, is_in_conflict}
+use Rattle.machine_model.specs.Machine.{Machine, Done, Send, refused, replied, granted, with_conn, without_conn, with_watches, with_transaction, without_transaction, tell, changed_machine, change_sends, special_sends, ran_by, done_command, command_inside, run_command, transaction_limit, start, committed, finish, close, may_watch, add_watch, remove_watch, if_control, introduce, release, set_target, act, act_or_refuse}
 use Rattle.machine_model.specs.Sends.{IsDueToChange, IsDueToSpecial, IsDue}
 use Rattle.machine_model.proofs.Lists.{contains_here, contains_later, all_weaker}
 use Rattle.machine_model.proofs.EventLemmas.{change_due_told, special_due}
@@ -53,15 +54,15 @@ module _ (m : Machine) where
       all_weaker (λ (s : Send). IsDueToSpecial new.conns s.0 s.1) (IsDue m new) (λ s d. inr (inl d)) (special_sends special new.conns) (special_due new.conns special is)
 
   module _ (c : ℕ) (conn : Connection) where
-    inside_due : (id : ℕ) (ran : Ran) (found : Option Transaction) → AreDue (command_inside m c conn id ran found)
-    inside_due id ran None = tt
-    inside_due id ran (Some t) = tt
+    inside_due : (id : ℕ) (operation : Operation) (path : Path) (found : Option Transaction) → AreDue (command_inside m c conn id operation path found)
+    inside_due id operation path None = tt
+    inside_due id operation path (Some t) = tt
 
-    run_command_due : (tx : ℕ) (ran : Ran) → AreDue (run_command m c conn tx ran)
-    run_command_due tx ran =
-        let outcome : Outcome = command ran.operation ran.path ran.caller m.tree in
-        if_due (tx == 0) (done_command m outcome) (command_inside m c conn tx ran (find nat_cmp tx conn.transactions))
-        (change_due_in m refl outcome.tree outcome.written) (inside_due tx ran (find nat_cmp tx conn.transactions))
+    run_command_due : (tx : ℕ) (operation : Operation) (path : Path) → AreDue (run_command m c conn tx operation path)
+    run_command_due tx operation path =
+        let outcome : Outcome = outcome_on m.tree (ran_by conn operation path (generation_of m.gens path)) in
+        if_due (tx == 0) (done_command m outcome) (command_inside m c conn tx operation path (find nat_cmp tx conn.transactions))
+        (change_due_in m refl outcome.tree outcome.written) (inside_due tx operation path (find nat_cmp tx conn.transactions))
 
     start_due : (tx : ℕ) → AreDue (start m c conn tx)
     start_due tx =
@@ -110,7 +111,7 @@ module _ (m : Machine) where
   control_due conn done h = if_due ((caller_of conn.spec).domid == 0) done (refused Eacces m) h tt
 
   pub act_due : (c : ℕ) (conn : Connection) → find nat_cmp c m.conns ≡ Some conn → (tx : ℕ) (request : Request) → AreDue (act m c conn tx request)
-  act_due c conn stood tx (Command operation path) = run_command_due c conn tx (record { operation = operation; path = path; caller = caller_of conn.spec })
+  act_due c conn stood tx (Command operation path) = run_command_due c conn tx operation path
   act_due c conn stood tx (WatchRequest wpath token) = add_watch_due c conn stood (record { wpath = wpath; token = token })
   act_due c conn stood tx (Unwatch wpath token) = remove_watch_due c conn (record { wpath = wpath; token = token })
   act_due c conn stood tx Start = start_due c conn tx

@@ -14,8 +14,8 @@ pub run_keeps : (P : Machine → Type 0) → ((m : Machine) → P m → (served 
 run_keeps P to served past [] h = h
 run_keeps P to served past (item ∷ items) h = run_keeps P to served (past_after past item (step_with served past.machine item)) items (to past.machine h served item)
 
-pub run_follows : (served : List ℕ) (start : Machine) (items : List Item) → IsFollowed start → IsFollowed (run_with served (past_at_start start) items).machine
-run_follows served start items h = run_keeps IsFollowed (λ m is served item. step_keeps m is served item) served (past_at_start start) items h
+pub run_follows : (served : List ℕ) (start : Machine) (items : List Item) → IsFollowed start → IsFollowed (run_with served (past_at_start [] start) items).machine
+run_follows served start items h = run_keeps IsFollowed (λ m is served item. step_keeps m is served item) served (past_at_start [] start) items h
 
 pub serial_of : (m : Machine) → IsFollowed m → IsSerial m
 serial_of m is = each_open (IsOpenOver m.tree) (λ t. is_in_conflict t ≡ false → RunsAlike m.tree t) (λ t o free. runs_alike m.tree t is.tree o free) m.conns is.transactions

@@ -10,16 +10,17 @@ use Rattle.xs_model.specs.declared.message.WireErr.TheVariants.{Eacces, Eexist, 
 use Rattle.xs_model.specs.Paths.{Path}
 use Rattle.xs_model.specs.Trees.{Tree}
 use Rattle.xs_model.specs.Messages.{string, ok_payload, header_of, payload_of}
-use Rattle.xs_model.specs.Requests.{Request, Command, Watch as WatchRequest, Unwatch, Start, End, Introduce, Release, DomainPath, IsIntroduced, SetTarget, ResetWatches, request_of}
-use Rattle.xs_model.specs.Commands.{Outcome, command}
+use Rattle.xs_model.specs.Requests.{Operation, Request, Command, Watch as WatchRequest, Unwatch, Start, End, Introduce, Release, DomainPath, IsIntroduced, SetTarget, ResetWatches, request_of}
+use Rattle.xs_model.specs.Commands.{Outcome}
 use Rattle.xs_model.specs.Changes.{changed_paths}
+use Rattle.xs_model.specs.Generations.{generation_of}
 use Rattle.xs_model.specs.Watches.{Watch, same_watch, first_event}
 use Rattle.xs_model.proofs.Maps.{sorted_put, sorted_where, sorted_map, keys_put, keys_where, keys_map, keys_found}
 use Rattle.machine_model.specs.declared.ConnSpec.{ConnSpec}
 use Rattle.machine_model.specs.declared.ConnSpec.TheVariants.{Ring}
 use Rattle.machine_model.specs.Connections.{Connection, Connections, fresh, caller_of, ring_of, has_ring, with_evtchn, with_target, least_free}
-use Rattle.machine_model.specs.Transactions.{Transaction, Ran, started, run_on, wrote, is_in_conflict}
-use Rattle.machine_model.specs.Machine.{Machine, new_machine, Item, Asked, Lost, Done, refused, replied, granted, with_conn, without_conn, with_watches, with_transaction, without_transaction, with_spec, told, tell, changed_machine, done_command, command_inside, run_command, transaction_limit, start, committed, finish, close, may_watch, add_watch, remove_watch, if_control, set_spec, introduce, release, set_target, act, act_or_refuse, step_of_conn, step_with}
+use Rattle.machine_model.specs.Transactions.{Transaction, started, outcome_on, run_on, wrote, is_in_conflict}
+use Rattle.machine_model.specs.Machine.{Machine, new_machine, Item, Asked, Lost, Done, refused, replied, granted, with_conn, without_conn, with_watches, with_transaction, without_transaction, with_spec, told, tell, changed_machine, ran_by, done_command, command_inside, run_command, transaction_limit, start, committed, finish, close, may_watch, add_watch, remove_watch, if_control, set_spec, introduce, release, set_target, act, act_or_refuse, step_of_conn, step_with}
 use Rattle.machine_model.specs.History.{past_at_start, run_with}
 use Rattle.machine_model.specs.Limits.{HasIds}
 use Rattle.machine_model.proofs.HistoryLemmas.{run_keeps}
@@ -40,7 +41,7 @@ if_ids true x y p q = p
 if_ids false x y p q = q
 
 module _ (m : Machine) (ids : IdsOf m) where
-  put_ids : (c : ℕ) (conn : Connection) → 1 ≤ c → IdsOf (with_conn c conn m)
+  pub put_ids : (c : ℕ) (conn : Connection) → 1 ≤ c → IdsOf (with_conn c conn m)
   put_ids c conn h = record {
     rising = sorted_put nat_cmp nat_cmp_total c conn m.conns ids.rising;
     positive = keys_put nat_cmp (λ i. 1 ≤ i) c conn m.conns h ids.positive;
@@ -59,15 +60,15 @@ change_ids : (m : Machine) → IdsOf m → (tree : Tree) (written : List Path) �
 change_ids m ids tree written = tell_ids (changed_paths m.tree written tree) m.conns ids
 
 module _ (m : Machine) (ids : IdsOf m) (c : ℕ) (conn : Connection) (h : 1 ≤ c) where
-  inside_ids : (id : ℕ) (ran : Ran) (found : Option Transaction) → IdsOf (command_inside m c conn id ran found).machine
-  inside_ids id ran None = ids
-  inside_ids id ran (Some t) = put_ids m ids c _ h
+  inside_ids : (id : ℕ) (operation : Operation) (path : Path) (found : Option Transaction) → IdsOf (command_inside m c conn id operation path found).machine
+  inside_ids id operation path None = ids
+  inside_ids id operation path (Some t) = put_ids m ids c _ h
 
-  run_command_ids : (tx : ℕ) (ran : Ran) → IdsOf (run_command m c conn tx ran).machine
-  run_command_ids tx ran =
-      let outcome : Outcome = command ran.operation ran.path ran.caller m.tree in
-      if_ids (tx == 0) (done_command m outcome) (command_inside m c conn tx ran (find nat_cmp tx conn.transactions))
-      (change_ids m ids outcome.tree outcome.written) (inside_ids tx ran (find nat_cmp tx conn.transactions))
+  run_command_ids : (tx : ℕ) (operation : Operation) (path : Path) → IdsOf (run_command m c conn tx operation path).machine
+  run_command_ids tx operation path =
+      let outcome : Outcome = outcome_on m.tree (ran_by conn operation path (generation_of m.gens path)) in
+      if_ids (tx == 0) (done_command m outcome) (command_inside m c conn tx operation path (find nat_cmp tx conn.transactions))
+      (change_ids m ids outcome.tree outcome.written) (inside_ids tx operation path (find nat_cmp tx conn.transactions))
 
   start_ids : (tx : ℕ) → IdsOf (start m c conn tx).machine
   start_ids tx =
@@ -117,7 +118,7 @@ module _ (m : Machine) (ids : IdsOf m) where
   control_ids conn done k = if_ids ((caller_of conn.spec).domid == 0) done (refused Eacces m) k ids
 
   act_ids : (c : ℕ) (conn : Connection) → 1 ≤ c → (tx : ℕ) (request : Request) → IdsOf (act m c conn tx request).machine
-  act_ids c conn h tx (Command operation path) = run_command_ids m ids c conn h tx (record { operation = operation; path = path; caller = caller_of conn.spec })
+  act_ids c conn h tx (Command operation path) = run_command_ids m ids c conn h tx operation path
   act_ids c conn h tx (WatchRequest wpath token) = add_watch_ids m ids c conn h (record { wpath = wpath; token = token })
   act_ids c conn h tx (Unwatch wpath token) = remove_watch_ids m ids c conn h (record { wpath = wpath; token = token })
   act_ids c conn h tx Start = start_ids m ids c conn h tx
@@ -140,9 +141,9 @@ module _ (m : Machine) (ids : IdsOf m) where
       let head = header_of bytes in
       asked_ids c conn (there m ids c conn e) head.tx_id (request_of served head.kind (payload_of bytes) (caller_of conn.spec).domid)
 
-  step_ids : (served : List ℕ) (item : Item) → IdsOf (step_with served m item).0
+  pub step_ids : (served : List ℕ) (item : Item) → IdsOf (step_with served m item).0
   step_ids served (Asked c bytes) = step_of_conn_ids served c bytes (find nat_cmp c m.conns) refl
   step_ids served (Lost c) = drop_ids m ids c
 
-pub run_ids : (served : List ℕ) (items : List Item) → IdsOf (run_with served (past_at_start new_machine) items).machine
-run_ids served items = run_keeps IdsOf step_ids served (past_at_start new_machine) items (record { rising = refl; positive = (le_refl 1, tt) })
+pub run_ids : (served : List ℕ) (items : List Item) → IdsOf (run_with served (past_at_start [] new_machine) items).machine
+run_ids served items = run_keeps IdsOf step_ids served (past_at_start [] new_machine) items (record { rising = refl; positive = (le_refl 1, tt) })

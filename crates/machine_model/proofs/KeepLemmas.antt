@@ -8,19 +8,20 @@ use Rattle.xs_model.specs.declared.message.WireErr.{WireErr}
 use Rattle.xs_model.specs.declared.message.WireErr.TheVariants.{Eacces, Eexist, Enoent, Enospc, Ebusy, Eagain, E2big}
 use Rattle.xs_model.specs.Paths.{Path, has_path}
 use Rattle.xs_model.specs.Trees.{Tree, node_at, IsTree}
-use Rattle.xs_model.specs.Requests.{Request, Command, Watch as WatchRequest, Unwatch, Start, End, Introduce, Release, DomainPath, IsIntroduced, SetTarget, ResetWatches, request_of}
+use Rattle.xs_model.specs.Requests.{Operation, Request, Command, Watch as WatchRequest, Unwatch, Start, End, Introduce, Release, DomainPath, IsIntroduced, SetTarget, ResetWatches, request_of}
 use Rattle.xs_model.specs.Messages.{string, ok_payload, header_of, payload_of}
-use Rattle.xs_model.specs.Commands.{command}
 use Rattle.xs_model.specs.Watches.{Watch, same_watch, first_event}
 use Rattle.xs_model.specs.Changes.{changed_paths}
+use Rattle.xs_model.specs.Generations.{generation_of}
+use Rattle.xs_model.specs.Perms.{Caller}
 use Rattle.xs_model.proofs.Maps.{not_both, all_found, all_put, all_where}
 use Rattle.xs_model.proofs.CommandLemmas.{command_keeps, command-elsewhere}
 use Rattle.xs_model.proofs.TreeLemmas.{new_tree-is}
 use Rattle.machine_model.specs.declared.ConnSpec.{ConnSpec}
 use Rattle.machine_model.specs.declared.ConnSpec.TheVariants.{Ring}
 use Rattle.machine_model.specs.Connections.{Connection, Connections, fresh, caller_of, ring_of, has_ring, with_evtchn, with_target, least_free}
-use Rattle.machine_model.specs.Transactions.{Transaction, Ran, started, run_on, wrote, is_in_conflict, with_command, with_others}
-use Rattle.machine_model.specs.Machine.{Machine, new_machine, Item, Asked, Lost, Done, refused, with_conn, without_conn, told_all, tell, changed_machine, done_command, command_inside, run_command, replied, granted, committed, with_transaction, without_transaction, with_watches, with_spec, if_control, transaction_limit, may_watch, start, finish, close, add_watch, remove_watch, set_spec, introduce, release, set_target, act, act_or_refuse, step_of_conn, step_with}
+use Rattle.machine_model.specs.Transactions.{Transaction, Ran, started, outcome_on, count, run_on, wrote, is_in_conflict, with_command, with_others}
+use Rattle.machine_model.specs.Machine.{Machine, new_machine, Item, Asked, Lost, Done, refused, with_conn, without_conn, told_all, tell, changed_machine, ran_by, done_command, command_inside, run_command, replied, granted, committed, with_transaction, without_transaction, with_watches, with_spec, if_control, transaction_limit, may_watch, start, finish, close, add_watch, remove_watch, set_spec, introduce, release, set_target, act, act_or_refuse, step_of_conn, step_with}
 use Rattle.machine_model.specs.Serial.{EachOpen, IsOpenOver, IsFollowed}
 use Rattle.machine_model.proofs.OpenLemmas.{told_open, commit_tree, commit-elsewhere}
 
@@ -57,7 +58,7 @@ pub open_conn : (P : Transaction → Type 0) (c : ℕ) (conn : Connection) (conn
 open_conn P c conn conns h e = all_put nat_cmp (EachOf P) c conn conns e h
 
 module _ (m : Machine) (is : IsFollowed m) where
-  with_conn_keeps : (c : ℕ) (conn : Connection) → EachOf (IsOpenOver m.tree) conn → IsFollowed (with_conn c conn m)
+  pub with_conn_keeps : (c : ℕ) (conn : Connection) → EachOf (IsOpenOver m.tree) conn → IsFollowed (with_conn c conn m)
   with_conn_keeps c conn h = record { tree = is.tree; transactions = open_conn (IsOpenOver m.tree) c conn m.conns is.transactions h }
 
   without_conn_keeps : (c : ℕ) → IsFollowed (without_conn c m)
@@ -69,7 +70,7 @@ module _ (m : Machine) (is : IsFollowed m) where
     transactions = tell_each (IsOpenOver m.tree) (IsOpenOver tree) (changed_paths m.tree written tree) (λ t o. told_open m.tree tree written t frame o) m.conns is.transactions;
   }
 
-  conn_there : (c : ℕ) (conn : Connection) → find nat_cmp c m.conns ≡ Some conn → EachOf (IsOpenOver m.tree) conn
+  pub conn_there : (c : ℕ) (conn : Connection) → find nat_cmp c m.conns ≡ Some conn → EachOf (IsOpenOver m.tree) conn
   conn_there c conn e = all_found nat_cmp (EachOf (IsOpenOver m.tree)) c m.conns conn is.transactions e
 
   -- a machine is chosen by a test
@@ -90,16 +91,19 @@ one_more_open : (tree : Tree) (ran : Ran) (t : Transaction) → IsOpenOver tree 
 one_more_open tree ran t o = record { copy = o.copy; began = o.began; nodes = o.nodes; children = o.children; parents = o.parents }
 
 module _ (m : Machine) (is : IsFollowed m) (c : ℕ) (conn : Connection) (of_conn : EachOf (IsOpenOver m.tree) conn) where
-  command_inside_keeps : (id : ℕ) (ran : Ran) (found : Option Transaction) → find nat_cmp id conn.transactions ≡ found → IsFollowed (command_inside m c conn id ran found).machine
-  command_inside_keeps id ran None e = is
-  command_inside_keeps id ran (Some t) e =
+  command_inside_keeps : (id : ℕ) (operation : Operation) (path : Path) (found : Option Transaction) → find nat_cmp id conn.transactions ≡ found → IsFollowed (command_inside m c conn id operation path found).machine
+  command_inside_keeps id operation path None e = is
+  command_inside_keeps id operation path (Some t) e =
+      let ran : Ran = ran_by conn operation path (count t) in
       with_conn_keeps m is c _ (all_put nat_cmp (IsOpenOver m.tree) id (with_command ran t) conn.transactions (one_more_open m.tree ran t (all_found nat_cmp (IsOpenOver m.tree) id conn.transactions t of_conn e)) of_conn)
 
-  run_command_keeps : (tx : ℕ) (ran : Ran) → IsFollowed (run_command m c conn tx ran).machine
-  run_command_keeps tx ran =
-      if_keeps m is (tx == 0) (done_command m (command ran.operation ran.path ran.caller m.tree)) (command_inside m c conn tx ran (find nat_cmp tx conn.transactions))
-      (change_keeps m is _ _ (command_keeps m.tree is.tree ran.operation ran.path ran.caller) (command-elsewhere ran.operation ran.path ran.caller m.tree))
-      (command_inside_keeps tx ran (find nat_cmp tx conn.transactions) refl)
+  run_command_keeps : (tx : ℕ) (operation : Operation) (path : Path) → IsFollowed (run_command m c conn tx operation path).machine
+  run_command_keeps tx operation path =
+      let number = generation_of m.gens path in
+      let caller : Caller = caller_of conn.spec in
+      if_keeps m is (tx == 0) (done_command m (outcome_on m.tree (ran_by conn operation path number))) (command_inside m c conn tx operation path (find nat_cmp tx conn.transactions))
+      (change_keeps m is _ _ (command_keeps m.tree is.tree operation path caller number) (command-elsewhere operation path caller number m.tree))
+      (command_inside_keeps tx operation path (find nat_cmp tx conn.transactions) refl)
 
   start_keeps : (tx : ℕ) → IsFollowed (start m c conn tx).machine
   start_keeps tx =
@@ -163,7 +167,7 @@ module _ (m : Machine) (is : IsFollowed m) where
 
   -- EVERY REQUEST
   act_keeps : (c : ℕ) (conn : Connection) → EachOf (IsOpenOver m.tree) conn → (tx : ℕ) (request : Request) → IsFollowed (act m c conn tx request).machine
-  act_keeps c conn h tx (Command operation path) = run_command_keeps m is c conn h tx (record { operation = operation; path = path; caller = caller_of conn.spec })
+  act_keeps c conn h tx (Command operation path) = run_command_keeps m is c conn h tx operation path
   act_keeps c conn h tx (WatchRequest wpath token) = add_watch_keeps m is c conn h (record { wpath = wpath; token = token })
   act_keeps c conn h tx (Unwatch wpath token) = remove_watch_keeps m is c conn h (record { wpath = wpath; token = token })
   act_keeps c conn h tx Start = start_keeps m is c conn h tx

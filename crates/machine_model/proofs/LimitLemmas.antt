@@ -190,9 +190,9 @@ Any x = Unit {0}
 limits_closed : IsClosed Any IsWithinLimits Any
 limits_closed = record {
   of_told = λ paths conn h. told_within conn h paths;
-  of_command = λ operation path conn tree asks h. tt;
+  of_command = λ operation path conn number tree asks h. tt;
   of_commit = λ conn id t tree h e is. tt;
-  inside = λ operation path conn id t asks h e. inside_within conn h id t _ e;
+  inside = λ operation path conn number id t asks h e. inside_within conn h id t _ e;
   opened = λ conn tree h full. opened_within conn h (started tree) full;
   closed = λ conn id h. closed_within conn h id;
   watched = λ conn wpath token h asks may. watched_within conn h (record { wpath = wpath; token = token }) may;
@@ -216,8 +216,8 @@ step_within m has served item = step_has Any IsWithinLimits Any limits_closed (�
 pub new_machine_within : HasLimits new_machine
 new_machine_within = record { tree = tt; conns = (fresh_within (Ring 0 None 0), tt) }
 
-pub run_within : (served : List ℕ) (items : List Item) → HasLimits (run_with served (past_at_start new_machine) items).machine
-run_within served items = run_keeps HasLimits step_within served (past_at_start new_machine) items new_machine_within
+pub run_within : (served : List ℕ) (items : List Item) → HasLimits (run_with served (past_at_start [] new_machine) items).machine
+run_within served items = run_keeps HasLimits step_within served (past_at_start [] new_machine) items new_machine_within
 
 -- START
 abbrev payload_or : List ℕ → Result (List ℕ) WireErr → List ℕ

@@ -104,6 +104,7 @@ pub dropped : (served : List ℕ) (m : Machine) (c : ℕ) → IsDrop c m (step_w
 dropped served m c = record {
   sends = refl;
   tree = refl;
+  gens = refl;
   gone = found_without_conn c c m.conns ∙ ap (λ b. cond (not b) (find nat_cmp c m.conns) None) (eq-eqb c c refl);
   others = λ d apart. found_without_conn c d m.conns ∙ ap (λ b. cond (not b) (find nat_cmp d m.conns) None) (ne_eqb c d (λ e. apart (sym e)));
 }

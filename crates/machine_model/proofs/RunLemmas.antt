@@ -12,14 +12,14 @@ use Rattle.machine_model.specs.Transactions.{Ran, Ending, onto_ending, outcome_o
 
 pub run_list-tree : (tree : Tree) (list : List Ran) → IsTree tree → IsTree (run_list tree list).tree
 run_list-tree tree [] is = is
-run_list-tree tree (ran ∷ list) is = run_list-tree (outcome_on tree ran).tree list (command_keeps tree is ran.operation ran.path ran.caller)
+run_list-tree tree (ran ∷ list) is = run_list-tree (outcome_on tree ran).tree list (command_keeps tree is ran.operation ran.path ran.caller ran.number)
 
 pub run_list-elsewhere : (tree : Tree) (list : List Ran) (q : Path) → has_path q (run_list tree list).written ≡ false → node_at (run_list tree list).tree q ≡ node_at tree q
 run_list-elsewhere tree [] q h = refl
 run_list-elsewhere tree (ran ∷ list) q h =
     let next = (outcome_on tree ran).tree in
     let parts = outside-both q (outcome_on tree ran).written (run_list next list).written h in
-    run_list-elsewhere next list q parts.1 ∙ command-elsewhere ran.operation ran.path ran.caller tree q parts.0
+    run_list-elsewhere next list q parts.1 ∙ command-elsewhere ran.operation ran.path ran.caller ran.number tree q parts.0
 
 pub record SameEnding (others : List Path) (a b : Ending) : Type 0 where
   pub replies : a.replies ≡ b.replies
@@ -42,10 +42,10 @@ same_ending others copy tree (ran ∷ list) alike is_copy is touched written =
     let first = outcome_on copy ran in
     let later = run_list first.tree list in
     let one : SameOutcome others first (outcome_on tree ran) =
-    same_outcome others copy tree alike is_copy is ran.operation ran.path ran.caller
+    same_outcome others copy tree alike is_copy is ran.operation ran.path ran.caller ran.number
     (misses-left others first.touched later.touched touched) (misses-left others first.written later.written written)
     in
     onto_same others first (outcome_on tree ran) later (run_list (outcome_on tree ran).tree list) one
     (same_ending others first.tree (outcome_on tree ran).tree list one.alike
-    (command_keeps copy is_copy ran.operation ran.path ran.caller) (command_keeps tree is ran.operation ran.path ran.caller)
+    (command_keeps copy is_copy ran.operation ran.path ran.caller ran.number) (command_keeps tree is ran.operation ran.path ran.caller ran.number)
     (misses-right others first.touched later.touched touched) (misses-right others first.written later.written written))

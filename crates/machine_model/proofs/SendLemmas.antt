@@ -11,16 +11,16 @@ use Rattle.xs_model.specs.declared.message.WireErr.TheVariants.{Einval, Eacces, 
 use Rattle.xs_model.specs.Paths.{Path, text, home, is_absolute}
 use Rattle.xs_model.specs.Trees.{Tree, is_present}
 use Rattle.xs_model.specs.Messages.{Message, string, ok_payload, error_name, header_of, payload_of}
-use Rattle.xs_model.specs.Requests.{Request, Command, Watch as WatchRequest, Unwatch, Start, End, Introduce, Release, DomainPath, IsIntroduced, SetTarget, ResetWatches, request_of}
-use Rattle.xs_model.specs.Commands.{command}
+use Rattle.xs_model.specs.Requests.{Operation, Request, Command, Watch as WatchRequest, Unwatch, Start, End, Introduce, Release, DomainPath, IsIntroduced, SetTarget, ResetWatches, request_of}
 use Rattle.xs_model.specs.Watches.{Watch, Event, event_at, named_path, event_message, same_watch, first_event, is_gone_with_parent}
 use Rattle.xs_model.specs.Laws.{IsShort, HasShortPaths}
 use Rattle.xs_model.proofs.Maps.{not_Some}
 use Rattle.xs_model.proofs.LengthLemmas.{decimal-length, home-length}
 use Rattle.xs_model.proofs.ShortLemmas.{IsShortReply, command_reply}
 use Rattle.machine_model.specs.Connections.{Connection, caller_of, ring_of, has_ring, least_free}
-use Rattle.machine_model.specs.Transactions.{Transaction, Ran, started, after, run_on, is_in_conflict}
-use Rattle.machine_model.specs.Machine.{Machine, Item, Asked, Lost, Send, Done, refused, replied, granted, with_conn, with_watches, with_transaction, without_transaction, done_command, command_inside, run_command, transaction_limit, start, committed, finish, close, may_watch, add_watch, remove_watch, if_control, introduce, release, set_target, introduced_payload, act, act_or_refuse, reply_message, step_of_conn, step_with}
+use Rattle.xs_model.specs.Generations.{generation_of}
+use Rattle.machine_model.specs.Transactions.{Transaction, started, outcome_on, count, after, run_on, is_in_conflict}
+use Rattle.machine_model.specs.Machine.{Machine, Item, Asked, Lost, Send, Done, refused, replied, granted, with_conn, with_watches, with_transaction, without_transaction, ran_by, done_command, command_inside, run_command, transaction_limit, start, committed, finish, close, may_watch, add_watch, remove_watch, if_control, introduce, release, set_target, introduced_payload, act, act_or_refuse, reply_message, step_of_conn, step_with}
 use Rattle.machine_model.specs.History.{past_at_start, run_with}
 use Rattle.machine_model.proofs.HistoryLemmas.{run_keeps}
 use Rattle.machine_model.specs.Sends.{IsDueToChange, IsDueToSpecial, IsDueToWatch, IsDue}
@@ -94,14 +94,15 @@ home-short : (domid : ℕ) → length (string (text (home domid))) ≤ 4096
 home-short domid = omega (arith, length-append (text (home domid)) (0 ∷ []), home-length domid)
 
 module _ (m : Machine) where
-  inside_reply : (c : ℕ) (conn : Connection) (id : ℕ) (ran : Ran) (found : Option Transaction) → IsShortReply (command_inside m c conn id ran found).reply
-  inside_reply c conn id ran None = tt
-  inside_reply c conn id ran (Some t) = command_reply ran.operation ran.path ran.caller (after t)
+  inside_reply : (c : ℕ) (conn : Connection) (id : ℕ) (operation : Operation) (path : Path) (found : Option Transaction) → IsShortReply (command_inside m c conn id operation path found).reply
+  inside_reply c conn id operation path None = tt
+  inside_reply c conn id operation path (Some t) = command_reply operation path (caller_of conn.spec) (count t) (after t)
 
-  run_command_reply : (c : ℕ) (conn : Connection) (tx : ℕ) (ran : Ran) → IsShortReply (run_command m c conn tx ran).reply
-  run_command_reply c conn tx ran =
-      if_reply (tx == 0) (done_command m (command ran.operation ran.path ran.caller m.tree)) (command_inside m c conn tx ran (find nat_cmp tx conn.transactions))
-      (command_reply ran.operation ran.path ran.caller m.tree) (inside_reply c conn tx ran (find nat_cmp tx conn.transactions))
+  run_command_reply : (c : ℕ) (conn : Connection) (tx : ℕ) (operation : Operation) (path : Path) → IsShortReply (run_command m c conn tx operation path).reply
+  run_command_reply c conn tx operation path =
+      let number = generation_of m.gens path in
+      if_reply (tx == 0) (done_command m (outcome_on m.tree (ran_by conn operation path number))) (command_inside m c conn tx operation path (find nat_cmp tx conn.transactions))
+      (command_reply operation path (caller_of conn.spec) number m.tree) (inside_reply c conn tx operation path (find nat_cmp tx conn.transactions))
 
   start_reply : (c : ℕ) (conn : Connection) (tx : ℕ) → IsShortReply (start m c conn tx).reply
   start_reply c conn tx =
@@ -149,7 +150,7 @@ module _ (m : Machine) where
   introduced-short false = omega arith
 
   act_reply : (c : ℕ) (conn : Connection) (tx : ℕ) (request : Request) → IsShortReply (act m c conn tx request).reply
-  act_reply c conn tx (Command operation path) = run_command_reply c conn tx (record { operation = operation; path = path; caller = caller_of conn.spec })
+  act_reply c conn tx (Command operation path) = run_command_reply c conn tx operation path
   act_reply c conn tx (WatchRequest wpath token) = add_watch_reply c conn (record { wpath = wpath; token = token })
   act_reply c conn tx (Unwatch wpath token) = remove_watch_reply c conn (record { wpath = wpath; token = token })
   act_reply c conn tx Start = start_reply c conn tx
@@ -196,5 +197,5 @@ pub each_whole : (m : Machine) → IsSized m → (served : List ℕ) (item : Ite
 each_whole m is served (Asked c bytes) = sends_of served m is c bytes (find nat_cmp c m.conns) refl (step_sized m is served (Asked c bytes))
 each_whole m is served (Lost c) = tt
 
-pub run_sized : (served : List ℕ) (start : Machine) (items : List Item) → IsSized start → IsSized (run_with served (past_at_start start) items).machine
-run_sized served start items h = run_keeps IsSized step_sized served (past_at_start start) items h
+pub run_sized : (served : List ℕ) (start : Machine) (items : List Item) → IsSized start → IsSized (run_with served (past_at_start [] start) items).machine
+run_sized served start items h = run_keeps IsSized step_sized served (past_at_start [] start) items h

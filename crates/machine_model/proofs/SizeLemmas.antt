@@ -30,7 +30,7 @@ edits_by (e ∷ es) h = (edit_by e.0 e.1 h.0, edits_by es h.1)
 
 run_list-short : (tree : Tree) (list : List Ran) → HasShortPaths tree → AllByRecursion (λ ran. IsShort ran.path) list → HasShortPaths (run_list tree list).tree
 run_list-short tree [] short h = short
-run_list-short tree (ran ∷ list) short h = run_list-short (outcome_on tree ran).tree list (command_short ran.operation ran.path ran.caller tree h.0 short) h.1
+run_list-short tree (ran ∷ list) short h = run_list-short (outcome_on tree ran).tree list (command_short ran.operation ran.path ran.caller ran.number tree h.0 short) h.1
 
 abbrev EditsOf : Transaction → Type 0
 EditsOf t = AllByRecursion IsShort (edit_paths t.prior.edits)
@@ -95,15 +95,15 @@ module _ (conn : Connection) (h : IsSizedConn conn) where
   spec_sized : (spec : ConnSpec) → IsSizedConn (with_spec spec conn)
   spec_sized spec = record { watches = h.watches; edits = h.edits; commands = h.commands }
 
-fresh_sized : (spec : ConnSpec) → IsSizedConn (fresh spec)
+pub fresh_sized : (spec : ConnSpec) → IsSizedConn (fresh spec)
 fresh_sized spec = record { watches = tt; edits = tt; commands = tt }
 
 sizes_closed : IsClosed HasShortPaths IsSizedConn InForm
 sizes_closed = record {
   of_told = λ paths conn h. told_sized conn h paths;
-  of_command = λ operation path conn tree asks short. command_short operation path (caller_of conn.spec) tree asks short;
+  of_command = λ operation path conn number tree asks short. command_short operation path (caller_of conn.spec) number tree asks short;
   of_commit = λ conn id t tree h e short. commit_short conn h id t tree e short;
-  inside = λ operation path conn id t asks h e. inside_sized conn h id _ t asks e;
+  inside = λ operation path conn number id t asks h e. inside_sized conn h id _ t asks e;
   opened = λ conn tree h full. put_sized conn h (least_free conn.transactions) (started tree) tt tt;
   closed = λ conn id h. closed_sized conn h id;
   watched = λ conn wpath token h asks may. watched_sized conn h (record { wpath = wpath; token = token }) asks;

@@ -19,7 +19,7 @@ use Rattle.machine_model.specs.Sends.{IsAnswered, IsDue, IsDrop}
 
 -- the store after some items, from a start
 abbrev pub machine_after : List ℕ → Machine → List Item → Machine
-machine_after served start items = (run_with served (past_at_start start) items).machine
+machine_after served start items = (run_with served (past_at_start [] start) items).machine
 
 -- P of every state that a run from a new store reaches
 abbrev pub Reached : (Machine → Type 0) → Type 0

@@ -5,30 +5,34 @@ use Rattle.std.specs.List.{list_any}
 use Rattle.std.specs.Ordering.{nat_cmp}
 use Rattle.std.specs.FinMap.{find, put}
 use Rattle.std.specs.FinMap.Entries.{where_key}
+use Rattle.machine_model.specs.declared.bounds.TheConstants.{CONTROL_TRANSACTIONS, GUEST_TRANSACTIONS, WATCH_LIMIT}
 use Rattle.machine_model.specs.declared.ConnSpec.{ConnSpec}
 use Rattle.machine_model.specs.declared.ConnSpec.TheVariants.{Ring}
 use Rattle.xs_model.specs.declared.message.Header.{Header}
 use Rattle.xs_model.specs.declared.message.WireErr.{WireErr}
 use Rattle.xs_model.specs.declared.message.WireErr.TheVariants.{Eacces, Eexist, Enoent, Enospc, Ebusy, Eagain, E2big}
-use Rattle.xs_model.specs.declared.message.kind.TheConstants.{ERROR}
+use Rattle.xs_model.specs.declared.message.kind.TheConstants.{DIRECTORY, READ, GET_PERMS, INTRODUCE, RELEASE, GET_DOMAIN_PATH, WRITE, MKDIR, RM, ERROR, SET_PERMS, IS_DOMAIN_INTRODUCED, SET_TARGET}
 use Rattle.xs_model.specs.Paths.{Path, text, home}
 use Rattle.xs_model.specs.Perms.{Caller}
 use Rattle.xs_model.specs.Trees.{Tree, new_tree}
 use Rattle.xs_model.specs.Messages.{Message, header_of, payload_of, error_name, string, ok_payload}
-use Rattle.xs_model.specs.Requests.{Request, Command, Watch as WatchRequest, Unwatch, Start, End, Introduce, Release, DomainPath, IsIntroduced, SetTarget, ResetWatches, request_of, all_types, built_types, introduce_domain, release_domain}
-use Rattle.xs_model.specs.Commands.{Outcome, command}
+use Rattle.xs_model.specs.Generations.{Generations, new_generations, generation_of, stamped}
+use Rattle.xs_model.specs.Requests.{Operation, Request, Command, Watch as WatchRequest, Unwatch, Start, End, Introduce, Release, DomainPath, IsIntroduced, SetTarget, ResetWatches, request_of, all_types, introduce_domain, release_domain}
+use Rattle.xs_model.specs.Commands.{Outcome}
 use Rattle.xs_model.specs.Changes.{changed_paths}
 use Rattle.xs_model.specs.Watches.{Watch, same_watch, Event, events, event_perms, owed, special_owed, first_event}
 use Rattle.machine_model.specs.Connections.{Connection, Connections, fresh, caller_of, ring_of, has_ring, with_evtchn, with_target, least_free}
-use Rattle.machine_model.specs.Transactions.{Transaction, Ran, Ending, started, run_on, after, wrote, is_in_conflict, with_command, with_others}
+use Rattle.machine_model.specs.Transactions.{Transaction, Ran, Ending, started, outcome_on, run_on, after, wrote, count, is_in_conflict, with_command, with_others}
 
 pub record Machine : Type 0 where
   pub tree : Tree
+  -- a number for each path of the tree
+  pub gens : Generations
   pub conns : Connections
 
 -- a new store, where only domain 0 is connected
 abbrev pub new_machine : Machine
-new_machine = record { tree = new_tree; conns = (1, fresh (Ring 0 None 0)) ∷ [] }
+new_machine = record { tree = new_tree; gens = new_generations; conns = (1, fresh (Ring 0 None 0)) ∷ [] }
 
 -- WHAT HAPPENS: the bytes of one whole request come from a connection, or the connection is lost
 pub data Item : Type 0 where
@@ -56,11 +60,11 @@ granted m = replied ok_payload m
 
 -- PARTS OF A MACHINE. Another connection in the place of one
 abbrev pub with_conn : ℕ → Connection → Machine → Machine
-with_conn c conn m = record { tree = m.tree; conns = put nat_cmp c conn m.conns }
+with_conn c conn m = record { tree = m.tree; gens = m.gens; conns = put nat_cmp c conn m.conns }
 
 -- without a connection, its watches and its transactions
 abbrev pub without_conn : ℕ → Machine → Machine
-without_conn c m = record { tree = m.tree; conns = where_key nat_cmp (λ d. not (c == d)) m.conns }
+without_conn c m = record { tree = m.tree; gens = m.gens; conns = where_key nat_cmp (λ d. not (c == d)) m.conns }
 
 abbrev pub with_watches : List Watch → Connection → Connection
 with_watches watches conn = record { spec = conn.spec; watches = watches; transactions = conn.transactions }
@@ -75,7 +79,7 @@ without_transaction id conn =
 abbrev pub with_spec : ConnSpec → Connection → Connection
 with_spec spec conn = record { spec = spec; watches = conn.watches; transactions = conn.transactions }
 
--- A CHANGE of the tree: every open transaction is told which paths changed
+-- A CHANGE of the tree: every open transaction is told which paths changed, and these get a new number
 abbrev pub told : List Path → Connection → Connection
 told paths conn =
     record { spec = conn.spec; watches = conn.watches; transactions = map (λ e. (e.0, with_others paths e.1)) conn.transactions }
@@ -89,7 +93,11 @@ tell [] conns = conns
 tell (p ∷ ps) conns = told_all (p ∷ ps) conns
 
 abbrev pub changed_machine : Tree → List Path → Machine → Machine
-changed_machine tree written m = record { tree = tree; conns = tell (changed_paths m.tree written tree) m.conns }
+changed_machine tree written m = record {
+  tree = tree;
+  gens = stamped m.gens m.tree written tree;
+  conns = tell (changed_paths m.tree written tree) m.conns;
+}
 
 -- the events that one connection is owed for a change, in their order
 abbrev pub owed_events : Tree → Tree → Caller → List Watch → List Event → List Message
@@ -105,7 +113,13 @@ change_sends before written after conns =
 abbrev pub special_sends : List ℕ → Connections → List Send
 special_sends special conns = flat_map (λ e. sends_to e.0 (special_owed (caller_of e.1.spec) e.1.watches special)) conns
 
--- TREE COMMANDS outside of transactions change the tree at once
+-- TREE COMMANDS, with the number that DIRECTORY_PART shows: outside of transactions that of the path, inside the
+-- transaction's count
+abbrev pub ran_by : Connection → Operation → Path → ℕ → Ran
+ran_by conn operation path number =
+    record { operation = operation; path = path; caller = caller_of conn.spec; number = number }
+
+-- outside of transactions they change the tree at once
 abbrev pub done_command : Machine → Outcome → Done
 done_command m outcome = record {
   reply = outcome.reply;
@@ -116,23 +130,23 @@ done_command m outcome = record {
 -- in a transaction they run on what it sees, and join its list whatever they answer
 abbrev pub done_inside : Machine → ℕ → Connection → ℕ → Transaction → Ran → Done
 done_inside m c conn id t ran = record {
-  reply = (command ran.operation ran.path ran.caller (after t)).reply;
+  reply = (outcome_on (after t) ran).reply;
   machine = with_conn c (with_transaction id (with_command ran t) conn) m;
   sends = [];
 }
 
-abbrev pub command_inside : Machine → ℕ → Connection → ℕ → Ran → Option Transaction → Done
-command_inside m c conn id ran None = refused Enoent m
-command_inside m c conn id ran (Some t) = done_inside m c conn id t ran
+abbrev pub command_inside : Machine → ℕ → Connection → ℕ → Operation → Path → Option Transaction → Done
+command_inside m c conn id operation path None = refused Enoent m
+command_inside m c conn id operation path (Some t) = done_inside m c conn id t (ran_by conn operation path (count t))
 
-abbrev pub run_command : Machine → ℕ → Connection → ℕ → Ran → Done
-run_command m c conn tx ran =
-    if tx == 0 then done_command m (command ran.operation ran.path ran.caller m.tree)
-    else command_inside m c conn tx ran (find nat_cmp tx conn.transactions)
+abbrev pub run_command : Machine → ℕ → Connection → ℕ → Operation → Path → Done
+run_command m c conn tx operation path =
+    if tx == 0 then done_command m (outcome_on m.tree (ran_by conn operation path (generation_of m.gens path)))
+    else command_inside m c conn tx operation path (find nat_cmp tx conn.transactions)
 
 -- TRANSACTIONS. How many may be open
 abbrev pub transaction_limit : ConnSpec → ℕ
-transaction_limit spec = if (caller_of spec).domid == 0 then 65535 else 10
+transaction_limit spec = if (caller_of spec).domid == 0 then CONTROL_TRANSACTIONS else GUEST_TRANSACTIONS
 
 abbrev pub start : Machine → ℕ → Connection → ℕ → Done
 start m c conn tx =
@@ -159,11 +173,8 @@ close commit m c conn id None = refused Enoent m
 close commit m c conn id (Some t) = finish commit (with_conn c (without_transaction id conn) m) t
 
 -- WATCHES. A guest may have so many
-abbrev pub watch_limit : ℕ
-watch_limit = 128
-
 abbrev pub may_watch : Connection → Bool
-may_watch conn = (caller_of conn.spec).domid == 0 || nat_lt (length conn.watches) watch_limit
+may_watch conn = (caller_of conn.spec).domid == 0 || nat_lt (length conn.watches) WATCH_LIMIT
 
 abbrev pub add_watch : Machine → ℕ → Connection → Watch → Done
 add_watch m c conn w =
@@ -216,8 +227,7 @@ introduced_payload false = string (codes "F")
 
 -- ONE REQUEST of the connection `conn`, whose id is c, under the transaction number tx
 abbrev pub act : Machine → ℕ → Connection → ℕ → Request → Done
-act m c conn tx (Command operation path) =
-    run_command m c conn tx (record { operation = operation; path = path; caller = caller_of conn.spec })
+act m c conn tx (Command operation path) = run_command m c conn tx operation path
 act m c conn tx (WatchRequest wpath token) = add_watch m c conn (record { wpath = wpath; token = token })
 act m c conn tx (Unwatch wpath token) = remove_watch m c conn (record { wpath = wpath; token = token })
 act m c conn tx Start = start m c conn tx
@@ -262,6 +272,12 @@ step_with served m (Lost c) = (without_conn c m, [])
 abbrev pub step : Machine → Item → Step
 step = step_with all_types
 
--- the store with the message types that are built so far
+-- The message types that this version serves; each change that builds a type makes the list longer
+abbrev pub built_types : List ℕ
+built_types =
+    DIRECTORY ∷ READ ∷ GET_PERMS ∷ INTRODUCE ∷ RELEASE ∷ GET_DOMAIN_PATH ∷ WRITE ∷ MKDIR ∷ RM ∷ SET_PERMS
+    ∷ IS_DOMAIN_INTRODUCED ∷ SET_TARGET ∷ []
+
+-- the store with these types
 abbrev pub built_step : Machine → Item → Step
 built_step = step_with built_types

@@ -75,5 +75,6 @@ IsDue before after s =
 pub record IsDrop (c : ℕ) (before : Machine) (stepped : Step) : Type 0 where
   pub sends : stepped.1 ≡ []
   pub tree : stepped.0.tree ≡ before.tree
+  pub gens : stepped.0.gens ≡ before.gens
   pub gone : find nat_cmp c stepped.0.conns ≡ None
   pub others : (d : ℕ) → (d ≢ c) → find nat_cmp d stepped.0.conns ≡ find nat_cmp d before.conns

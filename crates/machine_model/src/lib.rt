@@ -4,7 +4,10 @@
 //! plain data types that both the definitions and the code of the crates above name.
 #![tactic(auto)]
 
+mod bounds;
 pub mod laws;
+
+pub use bounds::{CONTROL_TRANSACTIONS, CROWD_LIMIT, GUEST_TRANSACTIONS, HELD_LIMIT, WATCH_LIMIT};
 
 /// What stands at the other end of a connection.
 #[derive(Clone, Copy, Debug, PartialEq, Eq)]
@@ -22,4 +25,14 @@ pub enum ConnSpec {
     Socket {
         fd: u32,
     },
+}
+
+/// The two descriptors that belong to the whole store and not to a connection, -1 where there is none
+/// (xenstore-migration.md, GLOBAL_DATA).
+#[derive(Clone, Copy, Debug, PartialEq, Eq)]
+pub struct Globals {
+    /// The socket on which processes of domain 0 connect.
+    pub rw_socket_fd: i32,
+    /// The event channel device.
+    pub evtchn_fd: i32,
 }

@@ -8,7 +8,7 @@ use Rattle.machine_model.specs.Connections.{Connections, ring_of}
 use Rattle.machine_model.specs.Machine.{Item, step_with}
 use Rattle.machine_model.specs.History.{Life, Past, past_after, past_at_start}
 use Rattle.world_model.specs.Rings.{held}
-use Rattle.world_model.specs.Worlds.{World, Guest, Channel, Event, Send, Put, Intake, Do, Out, Take, Poke, ShowPage, Handover, Told, event_with, domid_if_new, channel_or_empty}
+use Rattle.world_model.specs.Worlds.{World, Guest, Channel, Event, Send, Put, Intake, Do, Out, Take, Poke, ShowPage, Handover, Told, event_with, domid_if_new, channel_or_empty, unsent_of}
 
 -- What a guest did with one page: the bytes that it put and got, whether it poked an index, and the life of the
 -- connection that the page was made for, as a place among all lives. The page may be there no more.
@@ -103,11 +103,23 @@ abbrev pub account_of : List ℕ → Account → List Event → Account
 account_of types account [] = account
 account_of types account (e ∷ es) = account_of types (account_after types account e) es
 
--- at the start of a run, when nothing was put or sent
+-- AT THE START of a run bytes may be under way. What is in the inbox of a page's connection counts as put, and what is
+-- still to be sent to it counts as sent.
+abbrev pub inbox_at : World → Option ℕ → List ℕ
+inbox_at w None = []
+inbox_at w (Some c) = (channel_or_empty (find nat_cmp c w.channels)).inbox
+
+abbrev pub begun_log : World → PageLog → PageLog
+begun_log w log = put_more (inbox_at w (ring_of log.domid w.machine.conns)) log
+
 abbrev pub account_at_start : World → Account
 account_at_start w =
-    let past = past_at_start w.machine in
-    record { world = w; past = past; logs = filter_map (λ e. log_for w.machine.conns past.lives e.0) w.guests }
+    let past = past_at_start (unsent_of w.channels) w.machine in
+    record {
+      world = w;
+      past = past;
+      logs = map (begun_log w) (filter_map (λ e. log_for w.machine.conns past.lives e.0) w.guests);
+    }
 
 -- SERVED. One list begins another
 pub record IsFront (front whole : List ℕ) : Type 0 where

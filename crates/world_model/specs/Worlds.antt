@@ -1,14 +1,17 @@
 -- The world: the sequential store, and per domain and connection the bytes that are under way. Its events and their
 -- answers are this project's own; what they move follows xenstore-ring.txt. It has no daemon to replace.
-use Rattle.std.specs.Prelude.{ℕ, ◌==◌, not, List, [], ◌∷◌, ◌++◌, length, take, drop, min, map, filter_map, nat_lt, nat_le, if◌then◌else◌, Option, Some, None, is_some}
+use Rattle.std.specs.Prelude.{ℕ, ℤ, negsuc, ◌==◌, not, List, [], ◌∷◌, ◌++◌, length, take, drop, min, map, filter_map, nat_lt, nat_le, if◌then◌else◌, Option, Some, None, is_some}
 use Rattle.std.specs.Ordering.{nat_cmp}
 use Rattle.std.specs.FinMap.{find, put}
 use Rattle.std.specs.FinMap.Entries.{where_key}
+use Rattle.machine_model.specs.declared.bounds.TheConstants.{HELD_LIMIT}
+use Rattle.machine_model.specs.declared.Globals.{Globals}
 use Rattle.machine_model.specs.declared.ConnSpec.{ConnSpec}
 use Rattle.machine_model.specs.declared.ConnSpec.TheVariants.{Ring as RingSpec, Socket}
 use Rattle.machine_model.specs.Connections.{Connection, Connections, fresh, ring_of, least_free}
 use Rattle.machine_model.specs.Machine.{Machine, Item, Asked, Lost, Send as StoreSend, Step, step_with, new_machine, with_conn}
-use Rattle.machine_model.specs.History.{sent_to}
+use Rattle.machine_model.specs.History.{Unsent, sent_to, crowded}
+use Rattle.xs_model.specs.Wholes.{rest_after}
 use Rattle.world_model.specs.declared.Which.{Which}
 use Rattle.world_model.specs.declared.Said.{Said}
 use Rattle.world_model.specs.declared.Said.TheVariants as said
@@ -27,12 +30,18 @@ fresh_guest start = record { page = fresh_page start; outbox = [] }
 pub record Channel : Type 0 where
   pub inbox : List ℕ
   pub unsent : List ℕ
+  -- so many of the unsent bytes are the rest of a message that was sent in part
+  pub rest : ℕ
 
 abbrev pub empty_channel : Channel
-empty_channel = record { inbox = []; unsent = [] }
+empty_channel = record { inbox = []; unsent = []; rest = 0 }
+
+abbrev pub no_globals : Globals
+no_globals = record { rw_socket_fd = negsuc 0; evtchn_fd = negsuc 0 }
 
 pub record World : Type 0 where
   pub machine : Machine
+  pub globals : Globals
   -- by domid, for each domain that ever had a ring connection
   pub guests : List (ℕ × Guest)
   -- by connection id
@@ -40,7 +49,12 @@ pub record World : Type 0 where
 
 -- a new store, and domain 0's page
 abbrev pub new_world : World
-new_world = record { machine = new_machine; guests = (0, fresh_guest 0) ∷ []; channels = (1, empty_channel) ∷ [] }
+new_world = record {
+  machine = new_machine;
+  globals = no_globals;
+  guests = (0, fresh_guest 0) ∷ [];
+  channels = (1, empty_channel) ∷ [];
+}
 
 -- EVENTS
 pub data Event : Type 0 where
@@ -68,14 +82,15 @@ told w s = record { world = w; said = s; given = []; taken = []; items = [] }
 
 -- PARTS OF A WORLD
 abbrev pub with_guest : ℕ → Guest → World → World
-with_guest d guest w = record { machine = w.machine; guests = put nat_cmp d guest w.guests; channels = w.channels }
+with_guest d guest w =
+    record { machine = w.machine; globals = w.globals; guests = put nat_cmp d guest w.guests; channels = w.channels }
 
 abbrev pub with_page : ℕ → Page → Guest → World → World
 with_page d page guest w = with_guest d (record { page = page; outbox = guest.outbox }) w
 
 abbrev pub with_channel : ℕ → Channel → World → World
 with_channel c channel w =
-    record { machine = w.machine; guests = w.guests; channels = put nat_cmp c channel w.channels }
+    record { machine = w.machine; globals = w.globals; guests = w.guests; channels = put nat_cmp c channel w.channels }
 
 -- GUESTS: a guest's own events want its page alone
 abbrev pub queued : ℕ → List ℕ → World → Guest → Told
@@ -156,6 +171,7 @@ abbrev pub dropped : ℕ → ℕ → Said → World → Served → Told
 dropped d error s w at = record {
   world = record {
     machine = (step_with [] w.machine (Lost at.conn)).0;
+    globals = w.globals;
     guests = put nat_cmp d (record { page = with_error error at.guest.page; outbox = at.guest.outbox }) w.guests;
     channels = without_channel at.conn w.channels;
   };
@@ -175,6 +191,7 @@ took d n w at =
     told (with_channel at.conn (record {
       inbox = at.channel.inbox ++ take n (held at.guest.page.request);
       unsent = at.channel.unsent;
+      rest = at.channel.rest;
     }) (with_page d (with_request (take_some n at.guest.page.request) at.guest.page) at.guest w)) (said.Took n)
 
 abbrev pub intake_ring : ℕ → ℕ → World → Served → Told
@@ -190,30 +207,22 @@ intake_at Part d max w at = intake_ring d max w at
 abbrev pub intake_event : ℕ → ℕ → World → Served → Told
 intake_event d max w at = intake_at (front at.channel.inbox) d max w at
 
--- DO: the message in front is one step of the store. So many unsent bytes may a connection have, for a request to be
--- taken, and after any request
-abbrev pub held_limit : ℕ
-held_limit = 32768
-
-abbrev pub crowd_limit : ℕ
-crowd_limit = 16777216
-
--- what a connection has to send after a step: a new one has nothing
+-- DO: the message in front is one step of the store. What a connection has to send after a step: a new one has nothing
 abbrev pub channel_or_empty : Option Channel → Channel
 channel_or_empty None = empty_channel
 channel_or_empty (Some channel) = channel
 
 abbrev pub channel_after : List StoreSend → ℕ → Channel → Channel
-channel_after sends c channel = record { inbox = channel.inbox; unsent = channel.unsent ++ sent_to c sends }
+channel_after sends c channel =
+    record { inbox = channel.inbox; unsent = channel.unsent ++ sent_to c sends; rest = channel.rest }
 
 abbrev pub channels_after : Step → List (ℕ × Channel) → List (ℕ × Channel)
 channels_after stepped channels =
     map (λ e. (e.0, channel_after stepped.1 e.0 (channel_or_empty (find nat_cmp e.0 channels)))) stepped.0.conns
 
--- the least connection that has too much to send
-abbrev pub crowded : List (ℕ × Channel) → Option ℕ
-crowded [] = None
-crowded (e ∷ es) = if nat_lt crowd_limit (length e.1.unsent) then Some e.0 else crowded es
+-- what each connection has to send
+abbrev pub unsent_of : List (ℕ × Channel) → Unsent
+unsent_of channels = map (λ e. (e.0, e.1.unsent)) channels
 
 -- a domain that gets a connection gets a fresh page
 abbrev pub ring_domid : ConnSpec → Option ℕ
@@ -230,11 +239,13 @@ with_fresh_guests (d ∷ ds) guests = with_fresh_guests ds (put nat_cmp d (fresh
 -- the world without the message in front of a connection's inbox
 abbrev pub without_front : ℕ → World → Served → List (ℕ × Channel)
 without_front n w at =
-    put nat_cmp at.conn (record { inbox = drop n at.channel.inbox; unsent = at.channel.unsent }) w.channels
+    put nat_cmp at.conn (record { inbox = drop n at.channel.inbox; unsent = at.channel.unsent; rest = at.channel.rest })
+    w.channels
 
 abbrev pub world_after : World → Step → List (ℕ × Channel) → World
 world_after w stepped channels = record {
   machine = stepped.0;
+  globals = w.globals;
   guests = with_fresh_guests (filter_map (domid_if_new w.machine.conns) stepped.0.conns) w.guests;
   channels = channels;
 }
@@ -245,7 +256,7 @@ done_unless None w item stepped channels =
     record { world = world_after w stepped channels; said = said.Done; given = []; taken = []; items = item ∷ [] }
 
 abbrev pub done_with : World → Item → Step → List (ℕ × Channel) → Told
-done_with w item stepped channels = done_unless (crowded channels) w item stepped channels
+done_with w item stepped channels = done_unless (crowded (unsent_of channels)) w item stepped channels
 
 abbrev pub do_step : List ℕ → ℕ → World → Served → Item → Told
 do_step types n w at item =
@@ -254,7 +265,7 @@ do_step types n w at item =
 
 abbrev pub do_message : List ℕ → ℕ → World → Served → Told
 do_message types n w at =
-    if nat_le held_limit (length at.channel.unsent) then told w (said.Held (length at.channel.unsent))
+    if nat_le HELD_LIMIT (length at.channel.unsent) then told w (said.Held (length at.channel.unsent))
     else do_step types n w at (Asked at.conn (take n at.channel.inbox))
 
 abbrev pub do_at : Front → List ℕ → ℕ → World → Served → Told
@@ -268,8 +279,11 @@ do_event types d w at = do_at (front at.channel.inbox) types d w at
 -- OUT: bytes go from what is unsent to the reply ring
 abbrev pub sent_some : ℕ → ℕ → World → Served → Told
 sent_some d n w at =
-    told (with_channel at.conn (record { inbox = at.channel.inbox; unsent = drop n at.channel.unsent })
-    (with_page d (with_reply (put_all (take n at.channel.unsent) at.guest.page.reply) at.guest.page) at.guest w))
+    told (with_channel at.conn (record {
+      inbox = at.channel.inbox;
+      unsent = drop n at.channel.unsent;
+      rest = rest_after at.channel.rest n at.channel.unsent;
+    }) (with_page d (with_reply (put_all (take n at.channel.unsent) at.guest.page.reply) at.guest.page) at.guest w))
     (said.Sent n)
 
 abbrev pub out_ring : ℕ → ℕ → World → Served → Told
@@ -307,6 +321,7 @@ domain_added d start None w =
     let c = least_free w.machine.conns in
     with_start d start (record {
       machine = with_conn c (fresh (RingSpec d None 0)) w.machine;
+      globals = w.globals;
       guests = w.guests;
       channels = put nat_cmp c empty_channel w.channels;
     })

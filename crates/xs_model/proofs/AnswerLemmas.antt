@@ -1,6 +1,6 @@
 -- A command gives the same answer on two trees that are alike outside a set of paths, where it neither looked at nor
 -- wrote a path of the set.
-use Rattle.std.specs.Prelude.{◌≡◌, Bool, true, false, cond, List, [], ◌∷◌, ◌++◌}
+use Rattle.std.specs.Prelude.{◌≡◌, ℕ, Bool, true, false, cond, List, [], ◌∷◌, ◌++◌}
 use Rattle.std.proofs.Common.{sym, refl, ap, subst, ◌∙◌, append-nil}
 use Rattle.xs_model.specs.declared.perm.Rights.{Rights}
 use Rattle.xs_model.specs.declared.message.WireErr.TheVariants.{Einval, Eacces}
@@ -8,8 +8,8 @@ use Rattle.xs_model.specs.Paths.{Name, Path, has_path, child, way_down}
 use Rattle.xs_model.specs.Perms.{Caller, rights_of}
 use Rattle.xs_model.specs.Messages.{strings}
 use Rattle.xs_model.specs.Trees.{Tree, node_at, is_present, children, all_below, Edit, edited, edit_paths, IsTree}
-use Rattle.xs_model.specs.Requests.{Operation, Directory, Read, GetPerms, Write, Mkdir, Rm, SetPerms, is_root}
-use Rattle.xs_model.specs.Commands.{sight_of, seen_names, Answer, refusal, success, looked_up, removals, rm_answer, answer, Outcome, command, nearest_of, absent_of, node_or_empty}
+use Rattle.xs_model.specs.Requests.{Operation, Directory, Read, GetPerms, Write, Mkdir, Rm, SetPerms, DirectoryPart, is_root}
+use Rattle.xs_model.specs.Commands.{sight_of, seen_names, Answer, refusal, success, looked_up, part_answer, removals, rm_answer, answer, Outcome, command, nearest_of, absent_of, node_or_empty}
 use Rattle.xs_model.proofs.Maps.{not_both}
 use Rattle.xs_model.proofs.PathLemmas.{has_path-here}
 use Rattle.xs_model.proofs.EditLemmas.{node_at-alike, present_alike}
@@ -34,6 +34,11 @@ looked_up-alike : (rights : Rights) (names others : List Name) (absent : List Pa
 looked_up-alike rights names others [] same = ap (λ ns. looked_up rights (strings ns) []) (same refl)
 looked_up-alike rights names others (p ∷ ps) same = refl
 
+part_answer-alike : (rights : Rights) (number offset : ℕ) (names others : List Name) (absent : List Path) → (absent ≡ [] → names ≡ others)
+    → part_answer rights number offset (strings names) absent ≡ part_answer rights number offset (strings others) absent
+part_answer-alike rights number offset names others [] same = ap (λ ns. part_answer rights number offset (strings ns) []) (same refl)
+part_answer-alike rights number offset names others (p ∷ ps) same = refl
+
 removed_alike : (others : List Path) (b : Bool) (below down : List Path) → (Misses others below → below ≡ down)
     → Misses others (edit_paths (cond b (success (removals below)) (refusal Eacces)).edits) → cond b (success (removals below)) (refusal Eacces) ≡ cond b (success (removals down)) (refusal Eacces)
 removed_alike others true below down same h = ap (λ ps. success (removals ps)) (same (subst (Misses others) (edit_paths-removals below) h))
@@ -48,7 +53,7 @@ rooted_alike : (others : List Path) (root : Bool) (a b : Answer) → (Misses oth
 rooted_alike others true a b same h = refl
 rooted_alike others false a b same h = same h
 
-module _ (others : List Path) (copy tree : Tree) (alike : AlikeOutside others copy tree) (is_copy : IsTree copy) (is : IsTree tree) (path : Path)
+module _ (others : List Path) (copy tree : Tree) (alike : AlikeOutside others copy tree) (is_copy : IsTree copy) (is : IsTree tree) (path : Path) (number : ℕ)
     (touched : Misses others (nearest_of copy [] (way_down [] path) ∷ absent_of copy (way_down [] path))) where
   abbrev near : Path
   near = nearest_of copy [] (way_down [] path)
@@ -74,19 +79,24 @@ module _ (others : List Path) (copy tree : Tree) (alike : AlikeOutside others co
   outside : missing ≡ [] → has_path path others ≡ false
   outside e = ap (λ p. has_path p others) (at_path e) ∙ near_outside
 
-  same_sight : (operation : Operation) → seen_names operation copy path ≡ seen_names operation tree path → sight_of operation copy path ≡ sight_of operation tree path
-  same_sight operation names = λ i. record { nearest = same.nearest i; node = same_node i; absent = same.absent i; names = names i }
+  same_sight : (operation : Operation) → seen_names operation copy path ≡ seen_names operation tree path → sight_of operation number copy path ≡ sight_of operation number tree path
+  same_sight operation names = λ i. record { nearest = same.nearest i; node = same_node i; absent = same.absent i; names = names i; number = number }
 
   abbrev on_copy : Operation → Caller → Answer
-  on_copy operation caller = answer operation caller (sight_of operation copy path) path (all_below copy path)
+  on_copy operation caller = answer operation caller (sight_of operation number copy path) path (all_below copy path)
 
   abbrev on_tree : Operation → Caller → Answer
-  on_tree operation caller = answer operation caller (sight_of operation tree path) path (all_below tree path)
+  on_tree operation caller = answer operation caller (sight_of operation number tree path) path (all_below tree path)
 
   directory_alike : (caller : Caller) → on_copy Directory caller ≡ on_tree Directory caller
   directory_alike caller =
       looked_up-alike (rights_of caller (node_or_empty (node_at copy near)).perms) (children copy path) (children tree path) missing (λ e. same_children others copy tree alike is_copy is path (outside e))
       ∙ λ i. looked_up (rights_of caller (same_node i).perms) (strings (children tree path)) (same.absent i)
+
+  part_alike : (offset : ℕ) (caller : Caller) → on_copy (DirectoryPart offset) caller ≡ on_tree (DirectoryPart offset) caller
+  part_alike offset caller =
+      part_answer-alike (rights_of caller (node_or_empty (node_at copy near)).perms) number offset (children copy path) (children tree path) missing (λ e. same_children others copy tree alike is_copy is path (outside e))
+      ∙ λ i. part_answer (rights_of caller (same_node i).perms) number offset (strings (children tree path)) (same.absent i)
 
   rm_alike_at : (caller : Caller) → Misses others (edit_paths (on_copy Rm caller).edits) → on_copy Rm caller ≡ on_tree Rm caller
   rm_alike_at caller h =
@@ -103,6 +113,7 @@ module _ (others : List Path) (copy tree : Tree) (alike : AlikeOutside others co
   same_answer Mkdir caller h = ap (λ s. answer Mkdir caller s path []) (same_sight Mkdir refl)
   same_answer Rm caller h = rm_alike_at caller h
   same_answer (SetPerms perms) caller h = ap (λ s. answer (SetPerms perms) caller s path []) (same_sight (SetPerms perms) refl)
+  same_answer (DirectoryPart offset) caller h = part_alike offset caller
 
 -- the same edits keep trees alike
 pub edited_alike : (others : List Path) (copy tree : Tree) (es : List Edit) → AlikeOutside others copy tree → AlikeOutside others (edited copy es) (edited tree es)
@@ -117,14 +128,15 @@ pub record SameOutcome (others : List Path) (a b : Outcome) : Type 0 where
   pub written : a.written ≡ b.written
   pub alike : AlikeOutside others a.tree b.tree
 
-pub same_outcome : (others : List Path) (copy tree : Tree) → AlikeOutside others copy tree → IsTree copy → IsTree tree → (operation : Operation) (path : Path) (caller : Caller)
-    → Misses others (command operation path caller copy).touched → Misses others (command operation path caller copy).written → SameOutcome others (command operation path caller copy) (command operation path caller tree)
-same_outcome others copy tree alike is_copy is operation path caller touched written =
-    let same : answer operation caller (sight_of operation copy path) path (all_below copy path) ≡ answer operation caller (sight_of operation tree path) path (all_below tree path) =
-    same_answer others copy tree alike is_copy is path touched operation caller written
+pub same_outcome : (others : List Path) (copy tree : Tree) → AlikeOutside others copy tree → IsTree copy → IsTree tree → (operation : Operation) (path : Path) (caller : Caller) (number : ℕ)
+    → Misses others (command operation path caller number copy).touched → Misses others (command operation path caller number copy).written
+    → SameOutcome others (command operation path caller number copy) (command operation path caller number tree)
+same_outcome others copy tree alike is_copy is operation path caller number touched written =
+    let same : answer operation caller (sight_of operation number copy path) path (all_below copy path) ≡ answer operation caller (sight_of operation number tree path) path (all_below tree path) =
+    same_answer others copy tree alike is_copy is path number touched operation caller written
     in
     let look = same_look_down others copy tree alike is_copy is path touched in
-    let es : List Edit = (answer operation caller (sight_of operation copy path) path (all_below copy path)).edits in
+    let es : List Edit = (answer operation caller (sight_of operation number copy path) path (all_below copy path)).edits in
     record {
       reply = ap (λ (a : Answer). a.reply) same;
       touched = λ i. look.nearest i ∷ look.absent i;

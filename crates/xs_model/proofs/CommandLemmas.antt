@@ -1,5 +1,5 @@
 -- Each command keeps a tree a tree, and changes nothing but what it wrote.
-use Rattle.std.specs.Prelude.{◌≡◌, ℕ, Bool, true, false, cond, not, ◌||◌, List, [], ◌∷◌, ◌++◌, Option, Some, None, is_some, map}
+use Rattle.std.specs.Prelude.{◌≡◌, ℕ, Bool, true, false, cond, not, ◌||◌, List, [], ◌∷◌, ◌++◌, length, nat_lt, Option, Some, None, is_some, map}
 use Rattle.std.proofs.Common.{sym, refl, subst, ◌∙◌, append-nil}
 use Rattle.std.proofs.lemmas.Bool.{not-false}
 use Rattle.xs_model.specs.declared.perm.Perm.{Perm}
@@ -9,8 +9,8 @@ use Rattle.xs_model.specs.Paths.{Name, Path, has_path, way_down}
 use Rattle.xs_model.specs.Perms.{Caller, rights_of, created_perms, perm_text}
 use Rattle.xs_model.specs.Messages.{strings}
 use Rattle.xs_model.specs.Trees.{Node, Tree, node_at, is_present, has_entry, all_below, Edit, edited, IsTree}
-use Rattle.xs_model.specs.Requests.{Operation, Directory, Read, GetPerms, Write, Mkdir, Rm, SetPerms, is_root}
-use Rattle.xs_model.specs.Commands.{Sight, sight_of, Answer, refusal, success, sized, looked_up, absent_refusal, shown, written_by, write_edits, mkdir_edits, removals, rm_absent, rm_answer, set_perms_answer, gives_away, permitted, answer, is_out_of_form, command, node_or_empty, nearest_of}
+use Rattle.xs_model.specs.Requests.{Operation, Directory, Read, GetPerms, Write, Mkdir, Rm, SetPerms, DirectoryPart, is_root}
+use Rattle.xs_model.specs.Commands.{Sight, sight_of, Answer, refusal, success, sized, looked_up, absent_refusal, shown, part_payload, part_shown, part_answer, written_by, write_edits, mkdir_edits, removals, rm_absent, rm_answer, set_perms_answer, gives_away, permitted, answer, is_out_of_form, command, node_or_empty, nearest_of}
 use Rattle.xs_model.proofs.Maps.{not_both}
 use Rattle.xs_model.proofs.EditLemmas.{node_at-elsewhere}
 use Rattle.xs_model.proofs.WayLemmas.{way_below, Looked, look_down}
@@ -26,6 +26,18 @@ absent-edits rights = elim rights.can_read as (λ b. (cond b (refusal Enoent) (r
 pub looked_up-edits : (rights : Rights) (payload : List ℕ) (absent : List Path) → (looked_up rights payload absent).edits ≡ []
 looked_up-edits rights payload [] = shown-edits rights payload
 looked_up-edits rights payload (p ∷ ps) = absent-edits rights
+
+no_edits : (b c : Bool) (a : Answer) → a.edits ≡ [] → (cond b (refusal Eacces) (cond c (refusal Einval) a)).edits ≡ []
+no_edits true c a h = refl
+no_edits false true a h = refl
+no_edits false false a h = h
+
+part_shown-edits : (rights : Rights) (number offset : ℕ) (list : List ℕ) → (part_shown rights number offset list).edits ≡ []
+part_shown-edits rights number offset list = no_edits (not rights.can_read) (nat_lt (length list) offset) (shown rights (part_payload number offset list)) (shown-edits rights (part_payload number offset list))
+
+pub part_answer-edits : (rights : Rights) (number offset : ℕ) (list : List ℕ) (absent : List Path) → (part_answer rights number offset list absent).edits ≡ []
+part_answer-edits rights number offset list [] = part_shown-edits rights number offset list
+part_answer-edits rights number offset list (p ∷ ps) = absent-edits rights
 
 pub rm_absent-edits : (rights : Rights) (absent : List Path) → (rm_absent rights absent).edits ≡ []
 rm_absent-edits rights [] = refl
@@ -94,17 +106,19 @@ module _ (tree : Tree) (is : IsTree tree) where
     permitted_keeps Rm rights l h = rm_keeps rights sight.absent h
     permitted_keeps (SetPerms perms) rights l h =
         subst (λ absent. Keeps (set_perms_answer caller rights sight.node perms path absent)) (sym l.missed) (set_perms_keeps rights perms l.rest (not-false (has_entry perms) h) l.to)
+    permitted_keeps (DirectoryPart offset) rights l h =
+        unchanged (part_answer rights sight.number offset (strings sight.names) sight.absent) (part_answer-edits rights sight.number offset (strings sight.names) sight.absent)
 
-  sight_entry : (operation : Operation) (path : Path) → is_present tree (sight_of operation tree path).nearest ≡ true → has_entry (sight_of operation tree path).node.perms ≡ true
-  sight_entry operation path h = found_entry (node_at tree (nearest_of tree [] (way_down [] path))) h (has_entries tree is (nearest_of tree [] (way_down [] path)))
+  sight_entry : (operation : Operation) (path : Path) (number : ℕ) → is_present tree (sight_of operation number tree path).nearest ≡ true → has_entry (sight_of operation number tree path).node.perms ≡ true
+  sight_entry operation path number h = found_entry (node_at tree (nearest_of tree [] (way_down [] path))) h (has_entries tree is (nearest_of tree [] (way_down [] path)))
 
-  pub command_keeps : (operation : Operation) (path : Path) (caller : Caller) → IsTree (command operation path caller tree).tree
-  command_keeps operation path caller =
-      let sight = sight_of operation tree path in
+  pub command_keeps : (operation : Operation) (path : Path) (caller : Caller) (number : ℕ) → IsTree (command operation path caller number tree).tree
+  command_keeps operation path caller number =
+      let sight = sight_of operation number tree path in
       let l = look_down tree is path in
       if_keeps (is_out_of_form operation path) (refusal Einval) (permitted operation caller (rights_of caller sight.node.perms) sight path (all_below tree path)) (λ e. is)
-      (permitted_keeps caller sight path (sight_entry operation path l.present) l.present operation (rights_of caller sight.node.perms) l)
+      (permitted_keeps caller sight path (sight_entry operation path number l.present) l.present operation (rights_of caller sight.node.perms) l)
 
 -- the frame of a command
-pub command-elsewhere : (operation : Operation) (path : Path) (caller : Caller) (tree : Tree) (q : Path) → has_path q (command operation path caller tree).written ≡ false → node_at (command operation path caller tree).tree q ≡ node_at tree q
-command-elsewhere operation path caller tree q h = node_at-elsewhere tree (answer operation caller (sight_of operation tree path) path (all_below tree path)).edits q h
+pub command-elsewhere : (operation : Operation) (path : Path) (caller : Caller) (number : ℕ) (tree : Tree) (q : Path) → has_path q (command operation path caller number tree).written ≡ false → node_at (command operation path caller number tree).tree q ≡ node_at tree q
+command-elsewhere operation path caller number tree q h = node_at-elsewhere tree (answer operation caller (sight_of operation number tree path) path (all_below tree path)).edits q h

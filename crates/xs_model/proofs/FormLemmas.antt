@@ -7,10 +7,10 @@ use Rattle.std.proofs.lemmas.Bool.{not-true}
 use Rattle.text_model.specs.Decimal.{number_of}
 use Rattle.xs_model.specs.declared.message.WireErr.{WireErr}
 use Rattle.xs_model.specs.declared.message.WireErr.TheVariants.{Enosys}
-use Rattle.xs_model.specs.declared.message.kind.TheConstants.{DIRECTORY, READ, GET_PERMS, WATCH, UNWATCH, TRANSACTION_START, TRANSACTION_END, INTRODUCE, RELEASE, GET_DOMAIN_PATH, WRITE, MKDIR, RM, SET_PERMS, IS_DOMAIN_INTRODUCED, SET_TARGET, RESET_WATCHES}
+use Rattle.xs_model.specs.declared.message.kind.TheConstants.{DIRECTORY, READ, GET_PERMS, WATCH, UNWATCH, TRANSACTION_START, TRANSACTION_END, INTRODUCE, RELEASE, GET_DOMAIN_PATH, WRITE, MKDIR, RM, SET_PERMS, IS_DOMAIN_INTRODUCED, SET_TARGET, RESET_WATCHES, DIRECTORY_PART}
 use Rattle.xs_model.specs.Paths.{path_of}
 use Rattle.xs_model.specs.Messages.{string}
-use Rattle.xs_model.specs.Requests.{Operation, Directory, Read, GetPerms, Write, Mkdir, Rm, SetPerms, Request, Command, Watch, Unwatch, Start, End, Introduce, Release, DomainPath, IsIntroduced, SetTarget, ResetWatches, ok_value, when, cut_string, one_string, two_strings, domid_of, is_empty, is_watch_path, is_token, one_path, path_request, is_root, rm_request, write_request, set_perms_request, perms_of, watch_request, end_request, introduce_request, domid_request, release_request, target_request, asked, or_einval, request_of}
+use Rattle.xs_model.specs.Requests.{Operation, Directory, Read, GetPerms, Write, Mkdir, Rm, SetPerms, DirectoryPart, Request, Command, Watch, Unwatch, Start, End, Introduce, Release, DomainPath, IsIntroduced, SetTarget, ResetWatches, ok_value, when, cut_string, one_string, two_strings, domid_of, is_empty, is_watch_path, is_token, one_path, path_request, is_root, rm_request, write_request, set_perms_request, last_field, part_request, perms_of, watch_request, end_request, introduce_request, domid_request, release_request, target_request, asked, or_einval, request_of}
 use Rattle.xs_model.proofs.Maps.{not_Some, from_Some}
 use Rattle.xs_model.specs.Laws.{IsShort}
 use Rattle.xs_model.proofs.LengthLemmas.{path_of-short, watch_path-short}
@@ -73,6 +73,11 @@ set_perms_form payload domid =
     then_always (cut_string payload) _ (λ first e. then_always (ok_value (path_of first.0 domid)) _ (λ path f. then_always (perms_of [] first.1) _ (λ perms g.
     always_Some (Command (SetPerms perms) path) (path_of-short first.0 domid path f))))
 
+part_form : (payload : List ℕ) (domid : ℕ) → Always InForm (part_request payload domid)
+part_form payload domid =
+    then_always (cut_string payload) _ (λ first e. then_always (ok_value (path_of first.0 domid)) _ (λ path f. then_always (last_field first.1) _ (λ digits g.
+    then_always (ok_value (number_of 18446744073709551615 digits)) _ (λ offset i. always_Some (Command (DirectoryPart offset) path) (path_of-short first.0 domid path f)))))
+
 watch_short : (path bytes wpath token : List ℕ) (domid : ℕ) → when (is_watch_path path domid) path ≡ Some wpath → when (is_token bytes) bytes ≡ Some token → (length wpath ≤ 3072) × (length token ≤ 1022)
 watch_short path bytes wpath token domid e f =
     let a = when_some (is_watch_path path domid) path wpath e in
@@ -127,7 +132,8 @@ asked_form kind payload domid =
     if_always (kind == SET_PERMS) (set_perms_form payload domid) (
     if_always (kind == IS_DOMAIN_INTRODUCED) (is_introduced_form payload) (
     if_always (kind == SET_TARGET) (target_form payload) (
-    if_always (kind == RESET_WATCHES) (always_Some ResetWatches tt) always_None))))))))))))))))
+    if_always (kind == RESET_WATCHES) (always_Some ResetWatches tt) (
+    if_always (kind == DIRECTORY_PART) (part_form payload domid) always_None)))))))))))))))))
 
 -- of a request that is not refused
 abbrev pub IfAsked : (Request → Type 0) → Result Request WireErr → Type 0

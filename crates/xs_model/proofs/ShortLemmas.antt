@@ -11,12 +11,12 @@ use Rattle.xs_model.specs.Paths.{Name, Path, same_path, child, way_down}
 use Rattle.xs_model.specs.Perms.{Caller, rights_of, created_perms, perm_text}
 use Rattle.xs_model.specs.Messages.{strings}
 use Rattle.xs_model.specs.Trees.{Node, Tree, node_at, is_present, all_below, Edit, edited_at, edited}
-use Rattle.xs_model.specs.Requests.{Operation, Directory, Read, GetPerms, Write, Mkdir, Rm, SetPerms}
-use Rattle.xs_model.specs.Commands.{Sight, sight_of, Answer, refusal, success, sized, looked_up, absent_refusal, written_by, creation, write_edits, mkdir_edits, removals, rm_absent, rm_answer, set_perms_answer, gives_away, permitted, answer, is_out_of_form, command, absent_of}
+use Rattle.xs_model.specs.Requests.{Operation, Directory, Read, GetPerms, Write, Mkdir, Rm, SetPerms, DirectoryPart}
+use Rattle.xs_model.specs.Commands.{Sight, sight_of, Answer, refusal, success, sized, looked_up, absent_refusal, written_by, creation, write_edits, mkdir_edits, removals, rm_absent, rm_answer, set_perms_answer, gives_away, permitted, answer, is_out_of_form, command, absent_of, part_payload, part_answer}
 use Rattle.xs_model.proofs.Maps.{not_both}
 use Rattle.xs_model.proofs.PathLemmas.{same_path-is, child-way}
 use Rattle.xs_model.proofs.EditLemmas.{node_at-edited_at}
-use Rattle.xs_model.proofs.CommandLemmas.{looked_up-edits, absent-edits, rm_absent-edits}
+use Rattle.xs_model.proofs.CommandLemmas.{looked_up-edits, absent-edits, rm_absent-edits, part_answer-edits}
 use Rattle.xs_model.specs.Laws.{IsShort, HasShortPaths}
 use Rattle.xs_model.proofs.LengthLemmas.{shorter_above}
 
@@ -94,10 +94,12 @@ module _ (caller : Caller) (rights : Rights) (sight : Sight) (path : Path) (shor
   permitted_short Mkdir below h = written_short rights (mkdir_edits caller sight sight.absent) (created_short (created_perms caller.domid sight.node.perms) [] sight.absent h)
   permitted_short Rm below h = rm_short sight.absent below
   permitted_short (SetPerms perms) below h = set_perms_short perms sight.absent
+  permitted_short (DirectoryPart offset) below h =
+      nothing_short (part_answer rights sight.number offset (strings sight.names) sight.absent) (part_answer-edits rights sight.number offset (strings sight.names) sight.absent)
 
-pub command_short : (operation : Operation) (path : Path) (caller : Caller) (tree : Tree) → IsShort path → HasShortPaths tree → HasShortPaths (command operation path caller tree).tree
-command_short operation path caller tree short h =
-    let sight : Sight = sight_of operation tree path in
+pub command_short : (operation : Operation) (path : Path) (caller : Caller) (number : ℕ) (tree : Tree) → IsShort path → HasShortPaths tree → HasShortPaths (command operation path caller number tree).tree
+command_short operation path caller number tree short h =
+    let sight : Sight = sight_of operation number tree path in
     let rights : Rights = rights_of caller sight.node.perms in
     edits_short tree (answer operation caller sight path (all_below tree path)).edits h
     (if_short (is_out_of_form operation path) (refusal Einval) (permitted operation caller rights sight path (all_below tree path)) tt
@@ -122,6 +124,11 @@ absent_reply rights = if_reply rights.can_read (refusal Enoent) (refusal Eacces)
 looked_up_reply : (rights : Rights) (payload : List ℕ) (absent : List Path) → IsShortReply (looked_up rights payload absent).reply
 looked_up_reply rights payload [] = if_reply rights.can_read (record { reply = sized payload; edits = [] }) (refusal Eacces) (sized_by payload (nat_lt PAYLOAD_MAX (length payload)) refl) tt
 looked_up_reply rights payload (p ∷ ps) = absent_reply rights
+
+part_reply : (rights : Rights) (number offset : ℕ) (list : List ℕ) (absent : List Path) → IsShortReply (part_answer rights number offset list absent).reply
+part_reply rights number offset list [] =
+    if_reply (not rights.can_read) (refusal Eacces) _ tt (if_reply (nat_lt (length list) offset) (refusal Einval) _ tt (looked_up_reply rights (part_payload number offset list) []))
+part_reply rights number offset list (p ∷ ps) = absent_reply rights
 
 ok_short : (es : List Edit) → IsShortReply (success es).reply
 ok_short es = omega arith
@@ -148,12 +155,13 @@ permitted_reply (Write value) caller rights sight path below = written_reply rig
 permitted_reply Mkdir caller rights sight path below = written_reply rights (mkdir_edits caller sight sight.absent)
 permitted_reply Rm caller rights sight path below = rm_reply rights sight.absent below
 permitted_reply (SetPerms perms) caller rights sight path below = set_perms_reply caller rights sight.node perms path sight.absent
+permitted_reply (DirectoryPart offset) caller rights sight path below = part_reply rights sight.number offset (strings sight.names) sight.absent
 
-pub command_reply : (operation : Operation) (path : Path) (caller : Caller) (tree : Tree) → IsShortReply (command operation path caller tree).reply
-command_reply operation path caller tree =
-    let sight : Sight = sight_of operation tree path in
+pub command_reply : (operation : Operation) (path : Path) (caller : Caller) (number : ℕ) (tree : Tree) → IsShortReply (command operation path caller number tree).reply
+command_reply operation path caller number tree =
+    let sight : Sight = sight_of operation number tree path in
     let rights : Rights = rights_of caller sight.node.perms in
     if_reply (is_out_of_form operation path) (refusal Einval) (permitted operation caller rights sight path (all_below tree path)) tt (permitted_reply operation caller rights sight path (all_below tree path))
 
-pub reply_short : (operation : Operation) (path : Path) (caller : Caller) (tree : Tree) (payload : List ℕ) → (command operation path caller tree).reply ≡ Ok payload → length payload ≤ 4096
-reply_short operation path caller tree payload e = subst IsShortReply e (command_reply operation path caller tree)
+pub reply_short : (operation : Operation) (path : Path) (caller : Caller) (number : ℕ) (tree : Tree) (payload : List ℕ) → (command operation path caller number tree).reply ≡ Ok payload → length payload ≤ 4096
+reply_short operation path caller number tree payload e = subst IsShortReply e (command_reply operation path caller number tree)

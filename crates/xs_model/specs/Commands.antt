@@ -1,7 +1,7 @@
--- The seven tree commands (xenstore.txt, "Database read, write and permissions operations"). What a command sees of
+-- The eight tree commands (xenstore.txt, "Database read, write and permissions operations"). What a command sees of
 -- the tree is a few facts about its path; what it does is a reply and some edits. The order of checks, the answers at
--- an absent path and the two sets of paths are this project's own.
-use Rattle.std.specs.Prelude.{ℕ, ◌==◌, Bool, false, not, ◌&&◌, ◌||◌, List, [], ◌∷◌, length, nat_lt, if◌then◌else◌, Option, Some, None, Result, Ok, Err, map}
+-- an absent path, the two sets of paths, and how DIRECTORY_PART cuts a list are this project's own.
+use Rattle.std.specs.Prelude.{ℕ, ◌-◌, ◌==◌, Bool, false, not, ◌&&◌, ◌||◌, List, [], ◌∷◌, ◌++◌, length, take, drop, nat_lt, if◌then◌else◌, Option, Some, None, Result, Ok, Err, map, decimal}
 use Rattle.xs_model.specs.declared.perm.Perm.{Perm}
 use Rattle.xs_model.specs.declared.perm.Rights.{Rights}
 use Rattle.xs_model.specs.declared.message.WireErr.{WireErr}
@@ -10,8 +10,8 @@ use Rattle.xs_model.specs.declared.message.TheConstants.{PAYLOAD_MAX}
 use Rattle.xs_model.specs.Paths.{Path, Name, way_down}
 use Rattle.xs_model.specs.Perms.{Caller, rights_of, created_perms, perm_text}
 use Rattle.xs_model.specs.Trees.{Node, Tree, node_at, is_present, children, all_below, has_entry, Edit, edited, edit_paths}
-use Rattle.xs_model.specs.Messages.{strings, ok_payload}
-use Rattle.xs_model.specs.Requests.{Operation, Directory, Read, GetPerms, Write, Mkdir, Rm, SetPerms, is_root}
+use Rattle.xs_model.specs.Messages.{string, strings, ok_payload}
+use Rattle.xs_model.specs.Requests.{Operation, Directory, Read, GetPerms, Write, Mkdir, Rm, SetPerms, DirectoryPart, is_root}
 
 -- WHAT A COMMAND SEES. Of the paths on a way down, those from the first absent one on
 abbrev pub absent_of : Tree → List Path → List Path
@@ -33,8 +33,10 @@ pub record Sight : Type 0 where
   pub node : Node
   -- the absent paths from below it down to the command's path: none where that is present
   pub absent : List Path
-  -- the names of the children, for DIRECTORY alone
+  -- the names of the children, for DIRECTORY and DIRECTORY_PART alone
   pub names : List Name
+  -- the number that DIRECTORY_PART shows, which tells whether the list changed between two parts
+  pub number : ℕ
 
 abbrev pub seen_names : Operation → Tree → Path → List Name
 seen_names Directory tree path = children tree path
@@ -44,18 +46,20 @@ seen_names (Write value) tree path = []
 seen_names Mkdir tree path = []
 seen_names Rm tree path = []
 seen_names (SetPerms perms) tree path = []
+seen_names (DirectoryPart offset) tree path = children tree path
 
 -- the sight of what lies on the way down to a path
-abbrev pub sight_on : Operation → Tree → Path → List Path → Sight
-sight_on operation tree path way = record {
+abbrev pub sight_on : Operation → ℕ → Tree → Path → List Path → Sight
+sight_on operation number tree path way = record {
   nearest = nearest_of tree [] way;
   node = node_or_empty (node_at tree (nearest_of tree [] way));
   absent = absent_of tree way;
   names = seen_names operation tree path;
+  number = number;
 }
 
-abbrev pub sight_of : Operation → Tree → Path → Sight
-sight_of operation tree path = sight_on operation tree path (way_down [] path)
+abbrev pub sight_of : Operation → ℕ → Tree → Path → Sight
+sight_of operation number tree path = sight_on operation number tree path (way_down [] path)
 
 -- WHAT IT ANSWERS. A reply payload or an error, and the edits
 pub record Answer : Type 0 where
@@ -84,6 +88,32 @@ shown rights payload = if rights.can_read then record { reply = sized payload; e
 abbrev pub looked_up : Rights → List ℕ → List Path → Answer
 looked_up rights payload [] = shown rights payload
 looked_up rights payload (p ∷ ps) = absent_refusal rights
+
+-- A PART OF A LIST. Bytes up to their last NUL
+abbrev pub onto_kept : ℕ → List ℕ → List ℕ
+onto_kept b [] = if b == 0 then b ∷ [] else []
+onto_kept b (c ∷ cs) = b ∷ c ∷ cs
+
+abbrev pub up_to_last_nul : List ℕ → List ℕ
+up_to_last_nul [] = []
+up_to_last_nul (b ∷ bs) = onto_kept b (up_to_last_nul bs)
+
+-- The number, and of the list from the offset on as many whole names as the payload takes. The list ends with an empty
+-- name, so that a reader knows the last part.
+abbrev pub part_of_list : List ℕ → List ℕ → List ℕ
+part_of_list head list = head ++ up_to_last_nul (take (PAYLOAD_MAX - length head) (string list))
+
+abbrev pub part_payload : ℕ → ℕ → List ℕ → List ℕ
+part_payload number offset list = part_of_list (string (decimal number)) (drop offset list)
+
+abbrev pub part_shown : Rights → ℕ → ℕ → List ℕ → Answer
+part_shown rights number offset list =
+    if not rights.can_read then refusal Eacces
+    else (if nat_lt (length list) offset then refusal Einval else shown rights (part_payload number offset list))
+
+abbrev pub part_answer : Rights → ℕ → ℕ → List ℕ → List Path → Answer
+part_answer rights number offset list [] = part_shown rights number offset list
+part_answer rights number offset list (p ∷ ps) = absent_refusal rights
 
 -- new nodes on the way down: empty ones, and the last with the value
 abbrev pub creation : List Perm → List ℕ → List Path → List Edit
@@ -144,6 +174,8 @@ permitted (Write value) caller rights sight path below = written_by rights (writ
 permitted Mkdir caller rights sight path below = written_by rights (mkdir_edits caller sight sight.absent)
 permitted Rm caller rights sight path below = rm_answer rights sight.absent below
 permitted (SetPerms perms) caller rights sight path below = set_perms_answer caller rights sight.node perms path sight.absent
+permitted (DirectoryPart offset) caller rights sight path below =
+    part_answer rights sight.number offset (strings sight.names) sight.absent
 
 -- RM of `/`, and SET_PERMS to no entries, which no payload asks for
 abbrev pub is_out_of_form : Operation → Path → Bool
@@ -154,6 +186,7 @@ is_out_of_form (Write value) path = false
 is_out_of_form Mkdir path = false
 is_out_of_form Rm path = is_root path
 is_out_of_form (SetPerms perms) path = not (has_entry perms)
+is_out_of_form (DirectoryPart offset) path = false
 
 abbrev pub answer : Operation → Caller → Sight → Path → List Path → Answer
 answer operation caller sight path below =
@@ -161,7 +194,7 @@ answer operation caller sight path below =
     else permitted operation caller (rights_of caller sight.node.perms) sight path below
 
 -- A WHOLE COMMAND: its reply, the tree after it, the paths that it looked at whatever the answer, and those that it
--- created, set or removed
+-- created, set or removed. The number is what DIRECTORY_PART shows; no other command looks at it.
 pub record Outcome : Type 0 where
   pub reply : Result (List ℕ) WireErr
   pub tree : Tree
@@ -176,7 +209,14 @@ outcome_of tree sight given = record {
   written = edit_paths given.edits;
 }
 
-abbrev pub command : Operation → Path → Caller → Tree → Outcome
-command operation path caller tree =
-    outcome_of tree (sight_of operation tree path)
-    (answer operation caller (sight_of operation tree path) path (all_below tree path))
+abbrev pub answer_on : Operation → Path → Caller → ℕ → Tree → Answer
+answer_on operation path caller number tree =
+    answer operation caller (sight_of operation number tree path) path (all_below tree path)
+
+-- the edits that a command makes
+abbrev pub command_edits : Operation → Path → Caller → ℕ → Tree → List Edit
+command_edits operation path caller number tree = (answer_on operation path caller number tree).edits
+
+abbrev pub command : Operation → Path → Caller → ℕ → Tree → Outcome
+command operation path caller number tree =
+    outcome_of tree (sight_of operation number tree path) (answer_on operation path caller number tree)

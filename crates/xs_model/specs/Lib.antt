@@ -2,8 +2,10 @@ pub mod Paths
 pub mod Perms
 pub mod Trees
 pub mod Messages
+pub mod Wholes
 pub mod Requests
 pub mod Commands
 pub mod Changes
+pub mod Generations
 pub mod Watches
 pub mod Laws

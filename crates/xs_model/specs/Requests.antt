@@ -1,5 +1,6 @@
 -- What a payload asks for (xenstore.txt, "Xenstore wire protocol" and each command). That bytes behind the last
--- string of WATCH, UNWATCH and INTRODUCE are ignored, and the bounds of numbers and tokens, are this project's own.
+-- string of WATCH, UNWATCH and INTRODUCE are ignored, the bounds of numbers and tokens, and that the offset of
+-- DIRECTORY_PART may lack its NUL, are this project's own.
 use Rattle.std.specs.Prelude.{ℕ, ◌==◌, Bool, true, false, not, ◌||◌, List, [], ◌∷◌, length, nat_lt, if◌then◌else◌, Option, Some, None, option_map, option_and_then, Result, Ok, Err, codes, ◌++◌}
 use Rattle.std.specs.List.{list_any}
 use Rattle.std.specs.Str.{bytes_eq}
@@ -8,7 +9,7 @@ use Rattle.xs_model.specs.declared.path.PathFault.{PathFault}
 use Rattle.xs_model.specs.declared.perm.Perm.{Perm}
 use Rattle.xs_model.specs.declared.message.WireErr.{WireErr}
 use Rattle.xs_model.specs.declared.message.WireErr.TheVariants.{Einval, Enosys}
-use Rattle.xs_model.specs.declared.message.kind.TheConstants.{DIRECTORY, READ, GET_PERMS, WATCH, UNWATCH, TRANSACTION_START, TRANSACTION_END, INTRODUCE, RELEASE, GET_DOMAIN_PATH, WRITE, MKDIR, RM, SET_PERMS, IS_DOMAIN_INTRODUCED, SET_TARGET, RESET_WATCHES}
+use Rattle.xs_model.specs.declared.message.kind.TheConstants.{DIRECTORY, READ, GET_PERMS, WATCH, UNWATCH, TRANSACTION_START, TRANSACTION_END, INTRODUCE, RELEASE, GET_DOMAIN_PATH, WRITE, MKDIR, RM, SET_PERMS, IS_DOMAIN_INTRODUCED, SET_TARGET, RESET_WATCHES, DIRECTORY_PART}
 use Rattle.xs_model.specs.Paths.{Path, path_of}
 use Rattle.xs_model.specs.Perms.{perm_of}
 use Rattle.xs_model.specs.Messages.{string}
@@ -22,6 +23,8 @@ pub data Operation : Type 0 where
   Mkdir : Operation
   Rm : Operation
   SetPerms : List Perm → Operation
+  -- the list of children from an offset on, as far as one reply takes it
+  DirectoryPart : ℕ → Operation
 
 pub data Request : Type 0 where
   Command : Operation → Path → Request
@@ -149,6 +152,23 @@ set_perms_request payload domid = do
   perms ← perms_of [] first.1
   Some (Command (SetPerms perms) path)
 
+-- the last field of a payload: its bytes to the end, or to a NUL behind which nothing stands
+abbrev pub whole_field : List ℕ → Option (List ℕ × List ℕ) → Option (List ℕ)
+whole_field bytes None = Some bytes
+whole_field bytes (Some cut) = when (is_empty cut.1) cut.0
+
+abbrev pub last_field : List ℕ → Option (List ℕ)
+last_field bytes = whole_field bytes (cut_string bytes)
+
+-- a path, and an offset of 64 bits
+abbrev pub part_request : List ℕ → ℕ → Option Request
+part_request payload domid = do
+  first ← cut_string payload
+  path ← ok_value (path_of first.0 domid)
+  digits ← last_field first.1
+  offset ← ok_value (number_of 18446744073709551615 digits)
+  Some (Command (DirectoryPart offset) path)
+
 -- a watch path and a token, for WATCH or UNWATCH
 abbrev pub watch_request : (List ℕ → List ℕ → Request) → List ℕ → ℕ → Option Request
 watch_request request payload domid = do
@@ -215,7 +235,8 @@ asked kind payload domid =
     else (if kind == SET_PERMS then set_perms_request payload domid
     else (if kind == IS_DOMAIN_INTRODUCED then domid_request IsIntroduced payload
     else (if kind == SET_TARGET then target_request payload
-    else (if kind == RESET_WATCHES then Some ResetWatches else None))))))))))))))))
+    else (if kind == RESET_WATCHES then Some ResetWatches
+    else (if kind == DIRECTORY_PART then part_request payload domid else None)))))))))))))))))
 
 abbrev pub or_einval : Option Request → Result Request WireErr
 or_einval None = Err Einval
@@ -226,13 +247,14 @@ or_einval (Some request) = Ok request
 abbrev pub all_types : List ℕ
 all_types =
     DIRECTORY ∷ READ ∷ GET_PERMS ∷ WATCH ∷ UNWATCH ∷ TRANSACTION_START ∷ TRANSACTION_END ∷ INTRODUCE ∷ RELEASE
-    ∷ GET_DOMAIN_PATH ∷ WRITE ∷ MKDIR ∷ RM ∷ SET_PERMS ∷ IS_DOMAIN_INTRODUCED ∷ SET_TARGET ∷ RESET_WATCHES ∷ []
+    ∷ GET_DOMAIN_PATH ∷ WRITE ∷ MKDIR ∷ RM ∷ SET_PERMS ∷ IS_DOMAIN_INTRODUCED ∷ SET_TARGET ∷ RESET_WATCHES
+    ∷ DIRECTORY_PART ∷ []
 
--- The types that this version serves; each change that builds a type makes the list longer.
-abbrev pub built_types : List ℕ
-built_types =
+-- The types whose payloads this version reads; each change that builds a type makes the list longer.
+abbrev pub read_types : List ℕ
+read_types =
     DIRECTORY ∷ READ ∷ GET_PERMS ∷ INTRODUCE ∷ RELEASE ∷ GET_DOMAIN_PATH ∷ WRITE ∷ MKDIR ∷ RM ∷ SET_PERMS
-    ∷ IS_DOMAIN_INTRODUCED ∷ SET_TARGET ∷ []
+    ∷ IS_DOMAIN_INTRODUCED ∷ SET_TARGET ∷ DIRECTORY_PART ∷ []
 
 -- The request, or the first refusal: a type that is not served, then a payload outside its form
 abbrev pub request_of : List ℕ → ℕ → List ℕ → ℕ → Result Request WireErr

@@ -17,7 +17,7 @@ pub fn paths_below_stand_together()
 {}
 
 /// A tree holds `/` and the parent of each of its other paths, and it still does so after any of the
-/// seven tree commands, whatever the answer was.
+/// tree commands, whatever the answer was.
 pub fn each_command_keeps_trees()
     ensures { EachCommandKeepsTrees }
 {}

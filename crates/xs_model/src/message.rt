@@ -53,10 +53,18 @@ pub mod kind {
     pub const SET_TARGET: u32 = 19;
 
     pub const RESET_WATCHES: u32 = 21;
+
+    pub const DIRECTORY_PART: u32 = 22;
 }
+
+/// The bytes of a header (xs_wire.h).
+pub const HEADER_SIZE: usize = 16;
 
 /// Payload bytes that a message may have at the most (xs_wire.h, XENSTORE_PAYLOAD_MAX).
 pub const PAYLOAD_MAX: usize = 4096;
+
+/// The bytes of the longest message: a header and the longest payload.
+pub const MESSAGE_MAX: usize = HEADER_SIZE + PAYLOAD_MAX;
 
 /// Errors that a refusal names (xs_wire.h).
 #[derive(Clone, Copy, Debug, PartialEq, Eq)]
