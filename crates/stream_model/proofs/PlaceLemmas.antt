@@ -27,8 +27,8 @@ records_behind bytes r rs h lt =
     let s = h.1.slack in
     let rest = h.0 in
     let laid = is_laid s r rest h.1.fits in
-    let size = whole_size (need r + length s.surplus) in
-    let len : u32_at 4 bytes ≡ need r + length s.surplus = ap (u32_at 4) h.1.parts ∙ laid.len in
+    let size = whole_size (need r + length s.more) in
+    let len : u32_at 4 bytes ≡ need r + length s.more = ap (u32_at 4) h.1.parts ∙ laid.len in
     let behind : drop size bytes ≡ rest = ap (drop size) h.1.parts ∙ laid.behind in
     let long : length bytes ≡ size + length rest = ap length h.1.parts ∙ omega (arith, length-append (spelling s r) rest, laid.size) in
     rw (len, behind) (not_last (is_end r) rest rs lt h.2, omega (arith, long))

@@ -12,7 +12,7 @@ use Rattle.stream_model.specs.declared.record.RecordType.{RecordType}
 use Rattle.stream_model.specs.declared.record.RecordType.TheVariants.{End, Global, Connection, Watch, Transaction, Node}
 use Rattle.stream_model.specs.Fields.{AreBytes, u32_bytes, i32_bytes, u16_at, u32_at, i32_at, part}
 use Rattle.stream_model.specs.Record.{StreamRecord, end_record, type_of, is_end}
-use Rattle.stream_model.specs.Spelling.{type_number, entry_bytes, fields, need, whole_size, Slack, NumbersFit, LengthsFit, Fits, BeginsWith, AreRecords, IsStream}
+use Rattle.stream_model.specs.Spelling.{type_number, entry_bytes, fields, need, whole_size, Slack, count_in, Says, NumbersFit, LengthsFit, Fits, BeginsWith, AreRecords, IsStream}
 use Rattle.stream_model.specs.Reading.{header_fault, type_with, fixed_part, whole_need, need_in, entries_in, record_in, body_record, typed_record, record_at, onto, ended, joined, records_from, stream_of}
 use Rattle.stream_model.proofs.FieldLemmas.{AreBytes-drop, AreBytes-take, u16_at-lt, u32_at-lt, u16_bytes-u16_at, u32_bytes-u32_at, concat-parts, length-entries_in, entries_fit, spelled-entries_in}
 use Rattle.stream_model.proofs.ReadingSteps.{records_from-here, records_from-fault}
@@ -55,12 +55,19 @@ global_spelled body h le = record {
   pad = refl;
 }
 
+count-by : (b : Bool) (more : List ℕ) → AreBytes more → cond b 0 (u32_at 0 more) < 2 ^ 32
+count-by true more h = omega arith
+count-by false more h = u32_at-lt 0 more h
+
+count-lt : (more : List ℕ) → AreBytes more → count_in more < 2 ^ 32
+count-lt more h = count-by (ltb (length more) 4) more h
+
 transaction_spelled : (body : List ℕ) → AreBytes body → 8 ≤ length body → Spelled Transaction body
 unfolding pad_in
 transaction_spelled body h le = record {
   parts = rw (u32_bytes-u32_at 0 body h (omega arith), u32_bytes-u32_at 4 body h (omega arith)) (concat-parts (4 ∷ 4 ∷ []) 0 body);
   needs = refl;
-  numbers = (u32_at-lt 0 body h, u32_at-lt 4 body h);
+  numbers = (u32_at-lt 0 body h, u32_at-lt 4 body h, count-lt (drop 8 body) (AreBytes-drop 8 body h));
   lengths = tt;
   pad = refl;
 }
@@ -136,6 +143,15 @@ same_type Connection body = refl
 same_type Watch body = refl
 same_type Transaction body = refl
 same_type Node body = refl
+
+-- what stands behind the fields says what was read
+says_read : (kind : RecordType) (body : List ℕ) → Says (drop (whole_need kind body) body) (record_in kind body)
+says_read End body = tt
+says_read Global body = tt
+says_read Connection body = tt
+says_read Watch body = tt
+says_read Transaction body = refl
+says_read Node body = tt
 
 -- ---- the tests that a record has passed
 
@@ -227,7 +243,7 @@ begins_with at bytes r h e =
     let spelled = body_spelled kind body (AreBytes-take len (drop 8 bytes) (AreBytes-drop 8 bytes h)) there.0 (omega (arith, found.enough)) (omega (arith, u32_at-lt 4 bytes h)) in
     let surplus = drop (whole_need kind body) body in
     let padding = part (8 + len) (whole_size len - (8 + len)) bytes in
-    let slack : Slack = record { pad = pad_in kind body; surplus = surplus; padding = padding } in
+    let slack : Slack = record { pad = pad_in kind body; more = surplus; padding = padding } in
     let over : length surplus ≡ length body - whole_need kind body = length-drop (whole_need kind body) body in
     let padded : length padding ≡ whole_size len - (8 + len) = length-part (8 + len) (whole_size len - (8 + len)) bytes (omega arith) in
     let sum : need made + length surplus ≡ len = omega (arith, spelled.needs, found.enough) in
@@ -235,7 +251,8 @@ begins_with at bytes r h e =
       numbers = spelled.numbers;
       lengths = spelled.lengths;
       pad = spelled.pad;
-      surplus = omega (arith, found.enough, found.no_more);
+      more = omega (arith, found.enough, found.no_more);
+      says = says_read kind body;
       body = omega (arith, u32_at-lt 4 bytes h);
       padding = omega (arith, sum, padded);
     } in
@@ -288,7 +305,7 @@ pub record Step (at : ℕ) (bytes : List ℕ) (rs : List StreamRecord) : Type 0 
   pub is : rs ≡ first ∷ more
   pub goes : Goes (at + whole_size (u32_at 4 bytes)) (drop (whole_size (u32_at 4 bytes)) bytes) first more
 
-step_by : (at : ℕ) (bytes : List ℕ) (rs : List StreamRecord) (here : Result StreamRecord StreamFault) → record_at at bytes ≡ here → records_from at 0 bytes ≡ Ok rs → Step at bytes rs
+pub step_by : (at : ℕ) (bytes : List ℕ) (rs : List StreamRecord) (here : Result StreamRecord StreamFault) → record_at at bytes ≡ here → records_from at 0 bytes ≡ Ok rs → Step at bytes rs
 step_by at bytes rs (Err fault) e all = absurd (err_is_ok fault rs (sym (records_from-fault at bytes fault e) ∙ all))
 step_by at bytes rs (Ok r) e all =
     let size = whole_size (u32_at 4 bytes) in

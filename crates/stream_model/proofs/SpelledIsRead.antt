@@ -11,7 +11,7 @@ use Rattle.stream_model.specs.declared.record.RecordType.{RecordType}
 use Rattle.stream_model.specs.declared.record.RecordType.TheVariants.{End, Global, Connection, Watch, Transaction, Node}
 use Rattle.stream_model.specs.Fields.{u16_bytes, u32_bytes, i32_bytes, u16_at, u32_at, i32_at, part}
 use Rattle.stream_model.specs.Record.{GlobalData, ConnectionData, WatchData, TransactionData, NodeData, StreamRecord, global_data, connection_data, watch_data, transaction_data, node_data, end_record, type_of, is_end}
-use Rattle.stream_model.specs.Spelling.{type_number, entry_bytes, fields, need, whole_size, Slack, spelling, NumbersFit, LengthsFit, Fits, AreRecords, IsStream, header}
+use Rattle.stream_model.specs.Spelling.{type_number, entry_bytes, fields, need, whole_size, Slack, Says, spelling, NumbersFit, LengthsFit, Fits, AreRecords, IsStream, header}
 use Rattle.stream_model.specs.Reading.{header_fault, type_with, fixed_part, whole_need, need_in, entries_in, record_in, record_at, onto, ended, records_from, stream_of}
 use Rattle.stream_model.proofs.ReadingSteps.{records_from-here}
 use Rattle.stream_model.proofs.FieldLemmas.{length-u16_bytes, length-u32_bytes, u16_field, u32_field, part_field, drop-fields, entries_in-spelled, length-entries}
@@ -26,11 +26,12 @@ global_again pad g rest fits =
     let b = i32_field (i32_bytes g.rw_socket_fd ∷ []) [] g.evtchn_fd rest 4 (simp (length-append, length-u32_bytes) (omega arith)) fits.1 in
     rw (a, b) refl
 
-transaction_again : (pad : List ℕ) (t : TransactionData) (rest : List ℕ) → NumbersFit (transaction_data t) → record_in Transaction (concat (fields pad (transaction_data t)) ++ rest) ≡ transaction_data t
-transaction_again pad t rest fits =
+transaction_again : (pad : List ℕ) (t : TransactionData) (rest : List ℕ) → NumbersFit (transaction_data t) → Says rest (transaction_data t) → record_in Transaction (concat (fields pad (transaction_data t)) ++ rest) ≡ transaction_data t
+transaction_again pad t rest fits says =
     let a = u32_field [] (u32_bytes t.tx ∷ []) t.conn rest 0 refl fits.0 in
     let b = u32_field (u32_bytes t.conn ∷ []) [] t.tx rest 4 (simp (length-append, length-u32_bytes) (omega arith)) fits.1 in
-    rw (a, b) refl
+    let behind : drop 8 (concat (fields pad (transaction_data t)) ++ rest) ≡ rest = drop-fields (u32_bytes t.conn ∷ u32_bytes t.tx ∷ []) [] rest 8 (simp (length-append, length-u32_bytes) refl) in
+    rw (a, b, behind, ← says) refl
 
 watch_lengths : (pad : List ℕ) (w : WatchData) (rest : List ℕ) → LengthsFit (watch_data w)
     → (u16_at 4 (concat (fields pad (watch_data w)) ++ rest) ≡ length w.wpath) × (u16_at 6 (concat (fields pad (watch_data w)) ++ rest) ≡ length w.token)
@@ -114,13 +115,13 @@ fields_length pad (transaction_data t) two fits = simp (length-append, length-u3
 fields_length pad (node_data n) two fits = simp (length-append, length-u32_bytes, length-u16_bytes, length-entries) (omega arith)
 fields_length pad end_record two fits = refl
 
-pub record_again : (pad : List ℕ) (r : StreamRecord) (rest : List ℕ) → length pad ≡ 2 → NumbersFit r → LengthsFit r → record_in (type_of r) (concat (fields pad r) ++ rest) ≡ r
-record_again pad (global_data g) rest two numbers lengths = global_again pad g rest numbers
-record_again pad (connection_data c) rest two numbers lengths = connection_again pad c rest two numbers lengths
-record_again pad (watch_data w) rest two numbers lengths = watch_again pad w rest numbers lengths
-record_again pad (transaction_data t) rest two numbers lengths = transaction_again pad t rest numbers
-record_again pad (node_data n) rest two numbers lengths = node_again pad n rest numbers lengths
-record_again pad end_record rest two numbers lengths = refl
+pub record_again : (pad : List ℕ) (r : StreamRecord) (rest : List ℕ) → length pad ≡ 2 → NumbersFit r → LengthsFit r → Says rest r → record_in (type_of r) (concat (fields pad r) ++ rest) ≡ r
+record_again pad (global_data g) rest two numbers lengths says = global_again pad g rest numbers
+record_again pad (connection_data c) rest two numbers lengths says = connection_again pad c rest two numbers lengths
+record_again pad (watch_data w) rest two numbers lengths says = watch_again pad w rest numbers lengths
+record_again pad (transaction_data t) rest two numbers lengths says = transaction_again pad t rest numbers says
+record_again pad (node_data n) rest two numbers lengths says = node_again pad n rest numbers lengths
+record_again pad end_record rest two numbers lengths says = refl
 
 -- the fixed part is a part of what the fields ask for
 fixed-le-need : (r : StreamRecord) → fixed_part (type_of r) ≤ need r
@@ -167,25 +168,25 @@ type_number-lt Node = omega arith
 -- how a spelling lies at the front of bytes
 pub record Laid (s : Slack) (r : StreamRecord) (rest : List ℕ) : Type 0 where
   pub kind : u32_at 0 (spelling s r ++ rest) ≡ type_number (type_of r)
-  pub len : u32_at 4 (spelling s r ++ rest) ≡ need r + length s.surplus
-  pub body : part 8 (need r + length s.surplus) (spelling s r ++ rest) ≡ concat (fields s.pad r) ++ s.surplus
-  pub size : length (spelling s r) ≡ whole_size (need r + length s.surplus)
-  pub behind : drop (whole_size (need r + length s.surplus)) (spelling s r ++ rest) ≡ rest
+  pub len : u32_at 4 (spelling s r ++ rest) ≡ need r + length s.more
+  pub body : part 8 (need r + length s.more) (spelling s r ++ rest) ≡ concat (fields s.pad r) ++ s.more
+  pub size : length (spelling s r) ≡ whole_size (need r + length s.more)
+  pub behind : drop (whole_size (need r + length s.more)) (spelling s r ++ rest) ≡ rest
 
 pub is_laid : (s : Slack) (r : StreamRecord) (rest : List ℕ) → Fits s r → Laid s r rest
 is_laid s r rest fits =
     let body = concat (fields s.pad r) in
-    let len = need r + length s.surplus in
+    let len = need r + length s.more in
     let type_bytes = u32_bytes (type_number (type_of r)) in
     let long = fields_length s.pad r fits.pad fits.numbers in
     let padded = fits.padding in
     let size : length (spelling s r) ≡ whole_size len = simp (length-append, length-u32_bytes) (omega arith) in
-    let place = drop-fields (type_bytes ∷ u32_bytes len ∷ []) (body ∷ s.surplus ∷ s.padding ∷ []) rest 8 (simp (length-append, length-u32_bytes) refl) in
-    let grouped : concat (body ∷ s.surplus ∷ s.padding ∷ []) ++ rest ≡ (body ++ s.surplus) ++ (s.padding ++ rest) = simp (append_assoc, append-nil) in
+    let place = drop-fields (type_bytes ∷ u32_bytes len ∷ []) (body ∷ s.more ∷ s.padding ∷ []) rest 8 (simp (length-append, length-u32_bytes) refl) in
+    let grouped : concat (body ∷ s.more ∷ s.padding ∷ []) ++ rest ≡ (body ++ s.more) ++ (s.padding ++ rest) = simp (append_assoc, append-nil) in
     record {
-      kind = u32_field [] (u32_bytes len ∷ body ∷ s.surplus ∷ s.padding ∷ []) (type_number (type_of r)) rest 0 refl (type_number-lt (type_of r));
-      len = u32_field (type_bytes ∷ []) (body ∷ s.surplus ∷ s.padding ∷ []) len rest 4 (simp (length-append, length-u32_bytes) refl) fits.body;
-      body = ap (take len) (place ∙ grouped) ∙ take_at (body ++ s.surplus) (s.padding ++ rest) len (omega (arith, length-append body s.surplus));
+      kind = u32_field [] (u32_bytes len ∷ body ∷ s.more ∷ s.padding ∷ []) (type_number (type_of r)) rest 0 refl (type_number-lt (type_of r));
+      len = u32_field (type_bytes ∷ []) (body ∷ s.more ∷ s.padding ∷ []) len rest 4 (simp (length-append, length-u32_bytes) refl) fits.body;
+      body = ap (take len) (place ∙ grouped) ∙ take_at (body ++ s.more) (s.padding ++ rest) len (omega (arith, length-append body s.more));
       size = size;
       behind = drop_at (spelling s r) rest (whole_size len) size;
     }
@@ -193,17 +194,17 @@ is_laid s r rest fits =
 pub record_at-spelled : (at : ℕ) (s : Slack) (r : StreamRecord) (rest : List ℕ) → Fits s r → record_at at (spelling s r ++ rest) ≡ Ok r
 record_at-spelled at s r rest fits =
     let bytes = spelling s r ++ rest in
-    let len = need r + length s.surplus in
-    let body = concat (fields s.pad r) ++ s.surplus in
+    let len = need r + length s.more in
+    let body = concat (fields s.pad r) ++ s.more in
     let laid = is_laid s r rest fits in
     let long : length bytes ≡ whole_size len + length rest = omega (arith, length-append (spelling s r) rest, laid.size) in
-    let body_long : length body ≡ len = omega (arith, length-append (concat (fields s.pad r)) s.surplus, fields_length s.pad r fits.pad fits.numbers) in
-    let few = fits.surplus in
+    let body_long : length body ≡ len = omega (arith, length-append (concat (fields s.pad r)) s.more, fields_length s.pad r fits.pad fits.numbers) in
+    let few = fits.more in
     let head_there : ltb (length bytes) 8 ≡ false = le-ltb _ _ (omega arith) in
     let whole_there : ltb (length bytes) (whole_size len) ≡ false = le-ltb _ _ (omega arith) in
     let enough : ltb (length body) (need r) ≡ false = le-ltb _ _ (omega arith) in
     let no_more : ltb (need r + 7) (length body) ≡ false = le-ltb _ _ (omega arith) in
-    rw (head_there, laid.kind, type_again (type_of r), laid.len, whole_there, laid.body, need_again s.pad r s.surplus fits.pad fits.numbers fits.lengths, enough, no_more, record_again s.pad r s.surplus fits.pad fits.numbers fits.lengths) refl
+    rw (head_there, laid.kind, type_again (type_of r), laid.len, whole_there, laid.body, need_again s.pad r s.more fits.pad fits.numbers fits.lengths, enough, no_more, record_again s.pad r s.more fits.pad fits.numbers fits.lengths fits.says) refl
 
 -- ---- all records
 
@@ -232,7 +233,7 @@ records_from-spelled (r ∷ rs) at bytes h =
     let s = h.1.slack in
     let rest = h.0 in
     let laid = is_laid s r rest h.1.fits in
-    let size = whole_size (need r + length s.surplus) in
+    let size = whole_size (need r + length s.more) in
     let more = goes_on (is_end r) _ _ _ (records_from-spelled rs (at + size) rest) h.2 in
     let same : whole_size (u32_at 4 (spelling s r ++ rest)) ≡ size = ap whole_size laid.len in
     let le : whole_size (u32_at 4 (spelling s r ++ rest)) ≤ length (spelling s r ++ rest) = omega (arith, same, length-append (spelling s r) rest, laid.size) in

@@ -6,3 +6,4 @@ pub mod Faults
 pub mod Places
 pub mod View
 pub mod EmptyStore
+pub mod CountRows

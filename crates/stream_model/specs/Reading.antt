@@ -9,7 +9,7 @@ use Rattle.stream_model.specs.declared.record.RecordType.{RecordType}
 use Rattle.stream_model.specs.declared.record.RecordType.TheVariants.{End, Global, Connection, Watch, Transaction, Node}
 use Rattle.stream_model.specs.Fields.{u8_at, u16_at, u32_at, i32_at, part}
 use Rattle.stream_model.specs.Record.{GlobalData, ConnectionData, WatchData, TransactionData, NodeData, StreamRecord, global_data, connection_data, watch_data, transaction_data, node_data, end_record, is_end}
-use Rattle.stream_model.specs.Spelling.{whole_size}
+use Rattle.stream_model.specs.Spelling.{whole_size, count_in}
 
 -- the first fault of the sixteen bytes of header, if one is there
 abbrev pub header_fault : List ℕ → Option StreamFault
@@ -80,7 +80,7 @@ watch_in body = record {
 }
 
 abbrev pub transaction_in : List ℕ → TransactionData
-transaction_in body = record { conn = u32_at 0 body; tx = u32_at 4 body }
+transaction_in body = record { conn = u32_at 0 body; tx = u32_at 4 body; count = count_in (drop 8 body) }
 
 abbrev pub node_in : List ℕ → NodeData
 node_in body = record {

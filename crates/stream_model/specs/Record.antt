@@ -1,6 +1,6 @@
 -- The records of a migration stream, version 1, by the names of xenstore-migration.md. Their fields are this
 -- project's own. A text stands as its bytes do, the NUL that its length counts included.
-use Rattle.std.specs.Prelude.{ℕ, ℤ, Bool, true, false, List}
+use Rattle.std.specs.Prelude.{ℕ, ℤ, ◌+◌, ◌*◌, ◌^◌, Bool, true, false, List}
 use Rattle.stream_model.specs.declared.record.RawPerm.{RawPerm}
 use Rattle.stream_model.specs.declared.record.RecordType.{RecordType}
 use Rattle.stream_model.specs.declared.record.RecordType.TheVariants.{End, Global, Connection, Watch, Transaction, Node}
@@ -26,10 +26,11 @@ pub record WatchData : Type 0 where
   pub wpath : List ℕ
   pub token : List ℕ
 
--- TRANSACTION_DATA: an open transaction of a connection
+-- TRANSACTION_DATA: an open transaction of a connection, and how many commands it has run
 pub record TransactionData : Type 0 where
   pub conn : ℕ
   pub tx : ℕ
+  pub count : ℕ
 
 -- NODE_DATA: a node of the store, or under a connection's transaction what that transaction did at a path
 pub record NodeData : Type 0 where
@@ -39,6 +40,10 @@ pub record NodeData : Type 0 where
   pub perms : List RawPerm
   pub path : List ℕ
   pub value : List ℕ
+
+-- the generation of a node of the store, in its record's tx-id and access
+abbrev pub generation_in : NodeData → ℕ
+generation_in n = n.tx + 2 ^ 32 * n.access
 
 pub data StreamRecord : Type 0 where
   global_data : GlobalData → StreamRecord

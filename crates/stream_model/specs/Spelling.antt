@@ -1,13 +1,13 @@
 -- How a stream is spelled: which bytes are a stream of which records (xenstore-migration.md; the layouts and the
 -- bytes that are let pass are this project's own).
-use Rattle.std.specs.Prelude.{ℕ, ◌+◌, ◌-◌, ◌*◌, ◌/◌, ◌^◌, ◌<◌, ◌≤◌, ◌≡◌, List, [], ◌∷◌, ◌++◌, length, codes, replicate, MatchBool, FitsSigned}
+use Rattle.std.specs.Prelude.{ℕ, ◌+◌, ◌-◌, ◌*◌, ◌/◌, ◌^◌, ◌<◌, ◌≤◌, ◌≡◌, if◌then◌else◌, nat_lt, List, [], ◌∷◌, ◌++◌, length, codes, replicate, MatchBool, FitsSigned}
 use Rattle.std.specs.Int.{w32}
 use Rattle.std.specs.List.{AllByRecursion, concat, flat_map}
 use Rattle.byteorder.specs.Endian.{big_bytes}
 use Rattle.stream_model.specs.declared.record.RawPerm.{RawPerm}
 use Rattle.stream_model.specs.declared.record.RecordType.{RecordType}
 use Rattle.stream_model.specs.declared.record.RecordType.TheVariants.{End, Global, Connection, Watch, Transaction, Node}
-use Rattle.stream_model.specs.Fields.{u16_bytes, u32_bytes, i32_bytes}
+use Rattle.stream_model.specs.Fields.{u16_bytes, u32_bytes, i32_bytes, u32_at}
 use Rattle.stream_model.specs.Record.{StreamRecord, global_data, connection_data, watch_data, transaction_data, node_data, end_record, type_of, is_end}
 
 -- the eight bytes that name the format, the version with its highest byte first, four flags bytes
@@ -53,23 +53,37 @@ need end_record = 0
 abbrev pub whole_size : ℕ → ℕ
 whole_size len = (8 + len + 7) / 8 * 8
 
--- the bytes of a record that mean nothing: the pad of a connection, up to seven bytes that a body has in surplus,
--- and the padding
+-- the bytes of a record that its fields do not ask for: the pad of a connection, up to seven bytes more in a body,
+-- and the padding. They mean nothing, but for the count of a transaction.
 pub record Slack : Type 0 where
   pub pad : List ℕ
-  pub surplus : List ℕ
+  pub more : List ℕ
   pub padding : List ℕ
+
+-- the count of a transaction, by the bytes behind its two ids: it is in the first four of them, and 0 where not so many
+-- stand there
+abbrev pub count_in : List ℕ → ℕ
+count_in more = if nat_lt (length more) 4 then 0 else u32_at 0 more
+
+-- what the bytes behind the fields say of a record: of a transaction its count, of no other record anything
+abbrev pub Says : List ℕ → StreamRecord → Type 0
+Says more (global_data g) = Unit {0}
+Says more (connection_data c) = Unit {0}
+Says more (watch_data w) = Unit {0}
+Says more (transaction_data t) = t.count ≡ count_in more
+Says more (node_data n) = Unit {0}
+Says more end_record = Unit {0}
 
 abbrev pub spelling : Slack → StreamRecord → List ℕ
 spelling s r =
-    concat (u32_bytes (type_number (type_of r)) ∷ u32_bytes (need r + length s.surplus) ∷ concat (fields s.pad r) ∷ s.surplus ∷ s.padding ∷ [])
+    concat (u32_bytes (type_number (type_of r)) ∷ u32_bytes (need r + length s.more) ∷ concat (fields s.pad r) ∷ s.more ∷ s.padding ∷ [])
 
 -- numbers fit their fields
 abbrev pub NumbersFit : StreamRecord → Type 0
 NumbersFit (global_data g) = FitsSigned w32 g.rw_socket_fd × FitsSigned w32 g.evtchn_fd
 NumbersFit (connection_data c) = (c.conn < 2 ^ 32) × (c.kind < 2 ^ 16) × (length c.spec ≡ 8) × (c.rest < 2 ^ 32)
 NumbersFit (watch_data w) = w.conn < 2 ^ 32
-NumbersFit (transaction_data t) = (t.conn < 2 ^ 32) × (t.tx < 2 ^ 32)
+NumbersFit (transaction_data t) = (t.conn < 2 ^ 32) × (t.tx < 2 ^ 32) × (t.count < 2 ^ 32)
 NumbersFit (node_data n) = (n.conn < 2 ^ 32) × (n.tx < 2 ^ 32) × (n.access < 2 ^ 16) × AllByRecursion (λ p. p.domid < 2 ^ 16) n.perms
 NumbersFit end_record = Unit {0}
 
@@ -87,9 +101,10 @@ pub record Fits (s : Slack) (r : StreamRecord) : Type 0 where
   pub numbers : NumbersFit r
   pub lengths : LengthsFit r
   pub pad : length s.pad ≡ 2
-  pub surplus : length s.surplus ≤ 7
-  pub body : need r + length s.surplus < 2 ^ 32
-  pub padding : 8 + need r + length s.surplus + length s.padding ≡ whole_size (need r + length s.surplus)
+  pub more : length s.more ≤ 7
+  pub says : Says s.more r
+  pub body : need r + length s.more < 2 ^ 32
+  pub padding : 8 + need r + length s.more + length s.padding ≡ whole_size (need r + length s.more)
 
 -- the bytes begin with a record, spelled with some slack, and `rest` follows it
 pub record BeginsWith (bytes : List ℕ) (r : StreamRecord) (rest : List ℕ) : Type 0 where
@@ -109,13 +124,27 @@ pub record IsStream (bytes : List ℕ) (records : List StreamRecord) : Type 0 wh
   pub headed : bytes ≡ header ++ body
   pub spelled : AreRecords body records
 
--- no slack: pad and padding are zero, and no byte is in surplus
-abbrev pub no_slack : StreamRecord → Slack
-no_slack r = record { pad = u16_bytes 0; surplus = []; padding = replicate (whole_size (need r) - (8 + need r)) 0 }
+-- what is written behind the fields: the count of a transaction, and else nothing
+abbrev pub written_behind : StreamRecord → List ℕ
+written_behind (global_data g) = []
+written_behind (connection_data c) = []
+written_behind (watch_data w) = []
+written_behind (transaction_data t) = u32_bytes t.count
+written_behind (node_data n) = []
+written_behind end_record = []
+
+-- how many bytes a body has that is written
+abbrev pub written_len : StreamRecord → ℕ
+written_len r = need r + length (written_behind r)
+
+-- the slack that is written: pad and padding are zero, and a body has no byte that means nothing
+abbrev pub written_slack : StreamRecord → Slack
+written_slack r =
+    record { pad = u16_bytes 0; more = written_behind r; padding = replicate (whole_size (written_len r) - (8 + written_len r)) 0 }
 
 -- the one text that is written for a record, and for a stream of records
 abbrev pub canonical_record : StreamRecord → List ℕ
-canonical_record r = spelling (no_slack r) r
+canonical_record r = spelling (written_slack r) r
 
 abbrev pub canonical : List StreamRecord → List ℕ
 canonical records = header ++ flat_map canonical_record records
