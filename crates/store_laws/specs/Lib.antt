@@ -1,0 +1,4 @@
+pub mod Lawful
+pub mod Numbers
+pub mod Writers
+pub mod Refusals
