@@ -4,6 +4,7 @@
 pub mod cuts;
 pub mod faults;
 pub mod first;
+pub mod parts;
 pub mod refusals;
 pub mod transactions;
 pub mod watches;
