@@ -1,2 +1,4 @@
 mod HexLemmas
 mod DecimalLemmas
+pub mod PairLemmas
+mod QueueLemmas

@@ -1,3 +1,5 @@
+pub mod Digits
+pub mod ByteQueue
 pub mod Faults
 pub mod MemSink
 pub mod MemSource

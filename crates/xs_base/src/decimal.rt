@@ -1,9 +1,10 @@
 //! Numbers in decimal.
-ghost use Rattle.std.specs.Prelude.{◌≡◌, ◌++◌, ◌≤◌, ◌<◌, length, drop, None, IfOk, OnOk, OnErr};
+ghost use Rattle.std.specs.Prelude.{◌≡◌, ◌++◌, ◌≤◌, length, IfOk, OnOk, OnErr};
 ghost use Rattle.std.specs.Fmt.{decimal};
 ghost use Rattle.text_model.specs.Decimal.{bad_digit_from, digits_number, number_of};
 
 use crate::{Bytes, NoMemory, NumFault};
+use itoa::Buffer;
 
 /// The digits of the greatest u64, and the most that a number is read from.
 const MAX_DIGITS: usize = 20;
@@ -37,9 +38,7 @@ pub fn push_decimal(line: &mut Bytes, value: u64) -> Result<(), NoMemory>
     ensures ok { OnOk result (line.new ≡ line.old ++ decimal value) }
     ensures err { OnErr result (line.new ≡ line.old) }
 {
-    let mut digits = [0u8; MAX_DIGITS];
-    let start = write_digits(value, &mut digits);
-    line.push(&digits[start..])
+    line.push(Buffer::new().format(value).as_bytes())
 }
 
 // The place of the first byte that is no digit.
@@ -64,20 +63,4 @@ fn number_from(digits: &[u8]) -> u128
         number = 10 * number + u128::from(byte.saturating_sub(b'0'));
     }
     number
-}
-
-// Writes the digits at the end, and says where they begin.
-fn write_digits(value: u64, into: &mut [u8; MAX_DIGITS]) -> usize
-    ensures within { result ≤ MAX_DIGITS }
-    ensures digits { drop result into.new ≡ decimal value }
-{
-    let mut start = MAX_DIGITS - 1;
-    let mut rest = value;
-    while rest >= 10 {
-        into[start] = b'0' + (rest % 10) as u8;
-        rest /= 10;
-        start -= 1;
-    }
-    into[start] = b'0' + rest as u8;
-    start
 }

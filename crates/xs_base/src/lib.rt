@@ -1,7 +1,8 @@
 //! What every other crate of this repository stands on: lists of bytes and of items, numbers and bytes in a
 //! text, and the ends where bytes come from and go to.
 //!
-//! - [`Bytes`] and [`Items`] are lists that grow at their end, and contracts see them as lists.
+//! - [`Bytes`] and [`Items`] are lists that grow at their end, and contracts see them as lists. A [`ByteQueue`] is
+//!   taken from at its front too, and contracts see what memory it keeps.
 //! - [`read_hex`], [`push_hex`], [`read_decimal`] and [`push_decimal`] read and write by the definitions of the
 //!   crate `text_model`; [`laws`] has that reading undoes writing.
 //! - A [`Source`], a [`Sink`] and a [`Vault`] are what a program works on. A contract speaks of the bytes that
@@ -11,6 +12,7 @@
 #![tactic(auto)]
 
 mod byte_list;
+mod byte_queue;
 mod call_tally;
 mod decimal;
 mod faults;
@@ -33,10 +35,11 @@ mod told;
 mod vaults;
 
 pub use byte_list::Bytes;
+pub use byte_queue::ByteQueue;
 pub use decimal::{push_decimal, read_decimal};
 pub use faults::{Failed, VaultErr};
 pub use gates::{Gate, OpenGate};
-pub use hexadecimal::{push_hex, read_hex};
+pub use hexadecimal::{hex_pair, push_hex, push_hex_between, read_hex};
 pub use item_list::{Calls, Items};
 pub use mem_sink::MemSink;
 pub use mem_source::MemSource;

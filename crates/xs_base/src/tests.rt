@@ -24,6 +24,9 @@ fn hexadecimal_digits(rt: HostRuntime) -> Result<(), Fail> {
     let mut line = Bytes::copy(rt.alloc(), b"x ")?;
     push_hex(&mut line, &[0, 171, 255])?;
     assert_eq!(rt; line.as_slice(), b"x 00abff".as_slice());
+    push_hex_between(&mut line, b" (", &[7], b")\n")?;
+    assert_eq!(rt; line.as_slice(), b"x 00abff (07)\n".as_slice());
+    assert_eq!(rt; hex_pair(0x4e), *b"4e");
     Ok(())
 }
 
@@ -61,6 +64,22 @@ fn bytes_grow(rt: HostRuntime) -> Result<(), Fail> {
     assert!(rt; bytes.len() == 3 && !bytes.is_empty());
     bytes.clear();
     assert!(rt; bytes.is_empty());
+    Ok(())
+}
+
+#[test]
+fn queues_keep_their_memory(rt: HostRuntime) -> Result<(), Fail> {
+    let mut queue = ByteQueue::with_capacity(rt.alloc(), 4)?;
+    queue.push_reserved(&[1, 2, 3]);
+    queue.skip(2);
+    queue.reserve(3)?;
+    queue.push_reserved(&[4, 5, 6]);
+    queue.push(&[7])?;
+    assert_eq!(rt; queue.bytes(), [3, 4, 5, 6, 7].as_slice());
+    let mut into = [0; 4];
+    assert_eq!(rt; queue.pull(&mut into), 4);
+    queue.move_to_front();
+    assert_eq!(rt; (into, queue.len()), ([3, 4, 5, 6], 1));
     Ok(())
 }
 
