@@ -9,12 +9,12 @@ use Rattle.text_model.specs.declared.NumFault.TheVariants.{TooLarge}
 use Rattle.text_model.specs.Decimal.{digits_number, bad_digit_from, number_unless, number_of}
 use Rattle.xs_model.specs.declared.perm.Perm.{Perm}
 use Rattle.xs_model.specs.declared.message.WireErr.TheVariants as wire
-use Rattle.xs_model.specs.declared.message.kind.TheConstants.{DIRECTORY, READ, GET_PERMS, WATCH, UNWATCH, TRANSACTION_START, TRANSACTION_END, INTRODUCE, RELEASE, GET_DOMAIN_PATH, WRITE, MKDIR, RM, SET_PERMS, IS_DOMAIN_INTRODUCED, SET_TARGET, RESET_WATCHES}
+use Rattle.xs_model.specs.declared.message.kind.TheConstants.{DIRECTORY, READ, GET_PERMS, WATCH, UNWATCH, TRANSACTION_START, TRANSACTION_END, INTRODUCE, RELEASE, GET_DOMAIN_PATH, WRITE, MKDIR, RM, SET_PERMS, IS_DOMAIN_INTRODUCED, SET_TARGET, RESET_WATCHES, DIRECTORY_PART}
 use Rattle.xs_model.specs.Paths.{Path, path_of}
 use Rattle.xs_model.specs.Perms.{perm_of}
 use Rattle.xs_model.specs.Trees.{has_entry}
 use Rattle.xs_model.specs.Messages.{string}
-use Rattle.xs_model.specs.Requests.{Operation, Directory, Read, GetPerms, Mkdir, Rm, SetPerms, Request, Command, Watch, Unwatch, Start, End, Introduce, Release, DomainPath, IsIntroduced, SetTarget, ResetWatches, ok_value, when, cut_string, one_string, two_strings, domid_of, is_empty, is_watch_path, is_token, last_perm, perms_of, one_path, path_request, is_root, rm_request, write_request, set_perms_request, watch_request, end_request, introduce_request, domid_request, release_request, target_request, asked, or_einval, request_of}
+use Rattle.xs_model.specs.Requests.{Operation, Directory, Read, GetPerms, Mkdir, Rm, SetPerms, Request, Command, Watch, Unwatch, Start, End, Introduce, Release, DomainPath, IsIntroduced, SetTarget, ResetWatches, ok_value, when, cut_string, one_string, two_strings, domid_of, is_empty, is_watch_path, is_token, last_perm, perms_of, one_path, path_request, is_root, rm_request, write_request, set_perms_request, last_field, part_request, watch_request, end_request, introduce_request, domid_request, release_request, target_request, asked, or_einval, request_of}
 use Rattle.xs_model.specs.Commands.{is_out_of_form}
 use Rattle.wire_codec.specs.declared.request.Request as code
 use Rattle.wire_codec.specs.declared.request.Request.TheVariants as variant
@@ -112,6 +112,11 @@ path_form operation payload domid always = path_form_at operation (one_path payl
 write_form : (payload : List ℕ) (domid : ℕ) → IfSome (write_request payload domid) HasForm
 write_form payload domid = then_form (cut_string payload) _ (λ first. then_form (ok_value (path_of first.0 domid)) _ (λ path. refl))
 
+part_form : (payload : List ℕ) (domid : ℕ) → IfSome (part_request payload domid) HasForm
+part_form payload domid =
+    then_form (cut_string payload) _ (λ first. then_form (ok_value (path_of first.0 domid)) _ (λ path.
+    then_form (last_field first.1) _ (λ digits. then_form (ok_value (number_of 18446744073709551615 digits)) _ (λ offset. refl))))
+
 watch_form : (request : List ℕ → List ℕ → Request) → ((wpath token : List ℕ) → HasForm (request wpath token)) → (payload : List ℕ) (domid : ℕ) → IfSome (watch_request request payload domid) HasForm
 watch_form request form payload domid =
     then_form (two_strings payload) _ (λ both. then_form (when (is_watch_path both.0 domid) both.0) _ (λ wpath. then_form (when (is_token both.1) both.1) _ (λ token. form wpath token)))
@@ -153,7 +158,8 @@ asked_form kind payload domid =
     if_form (kind == SET_PERMS) _ _ (set_perms_form payload domid) (
     if_form (kind == IS_DOMAIN_INTRODUCED) _ _ (domid_form IsIntroduced (λ domid within. within) payload) (
     if_form (kind == SET_TARGET) _ _ (target_form payload) (
-    if_form (kind == RESET_WATCHES) (Some ResetWatches) None tt tt))))))))))))))))
+    if_form (kind == RESET_WATCHES) _ _ tt (
+    if_form (kind == DIRECTORY_PART) (part_request payload domid) None (part_form payload domid) tt)))))))))))))))))
 
 -- REQUESTS
 asked_in_form : (o : Option Request) (request : Request) → IfSome o HasForm → or_einval o ≡ Ok request → HasForm request

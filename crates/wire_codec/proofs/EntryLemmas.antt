@@ -1,9 +1,10 @@
 -- The entries of a payload, string by string.
-use Rattle.std.proofs.Common.{◌≡◌, ℕ, ◌<◌, ◌==◌, Bool, true, false, cond, List, [], ◌∷◌, ◌++◌, length, Option, Some, None, IfSome, option_map, Ok, Err, refl, sym, ap, ◌∙◌, append_assoc, append-nil, arith}
+use Rattle.std.proofs.Common.{◌≡◌, ℕ, ◌<◌, ◌==◌, Bool, true, false, cond, List, [], ◌∷◌, ◌++◌, length, Option, Some, None, IfSome, is_some, option_map, Ok, Err, refl, sym, ap, ◌∙◌, append_assoc, append-nil, arith}
 use Rattle.std.proofs.lemmas.Bool.{ne_eqb}
 use Rattle.xs_model.specs.declared.perm.Perm.{Perm}
 use Rattle.xs_model.specs.declared.perm.PermFault.{PermFault}
 use Rattle.xs_model.specs.Perms.{perm_of}
+use Rattle.xs_model.proofs.Maps.{not_both}
 use Rattle.xs_model.specs.Requests.{cut_string, onto_string, ok_value, is_empty, onto_perms, last_perm, perms_of}
 
 is_empty-length : (bytes : List ℕ) → is_empty bytes ≡ (length bytes == 0)
@@ -77,3 +78,26 @@ cut_shorter (b ∷ bs) = shorter_step (b == 0) b bs (cut_shorter bs)
 
 pub behind_shorter : (bytes string behind : List ℕ) → cut_string bytes ≡ Some (string, behind) → length behind < length bytes
 behind_shorter bytes string behind cut = rw cut at (cut_shorter bytes)
+
+-- WHETHER THERE ARE ENTRIES
+some_map : {A B : Type 0} (f : A → B) (o : Option A) → is_some (option_map f o) ≡ is_some o
+some_map f None = refl
+some_map f (Some x) = refl
+
+pub none_uncut : (perms : List Perm) (rest : List ℕ) → cut_string rest ≡ None → is_some (perms_of [] rest) ≡ false
+none_uncut perms rest cut = sym (some_map (λ more. perms ++ more) (perms_of [] rest)) ∙ ap is_some (perms_uncut perms rest cut)
+
+pub none_bad : (perms : List Perm) (rest string behind : List ℕ) (fault : PermFault) → cut_string rest ≡ Some (string, behind) → perm_of string ≡ Err fault → is_some (perms_of [] rest) ≡ false
+none_bad perms rest string behind fault cut bad = sym (some_map (λ more. perms ++ more) (perms_of [] rest)) ∙ ap is_some (perms_bad perms rest string behind fault cut bad)
+
+pub some_more : (perm : Perm) (rest string behind : List ℕ) → cut_string rest ≡ Some (string, behind) → perm_of string ≡ Ok perm → (length behind == 0) ≡ false
+    → is_some (perms_of [] behind) ≡ is_some (perms_of [] rest)
+some_more perm rest string behind cut good some =
+    sym (some_map (λ more. perm ∷ more) (perms_of [] behind)) ∙ sym (ap is_some (perms_more [] perm rest string behind cut good some)) ∙ some_map (λ more. [] ++ more) (perms_of [] rest)
+
+pub some_last : (perm : Perm) (rest string behind : List ℕ) → cut_string rest ≡ Some (string, behind) → perm_of string ≡ Ok perm → (length behind == 0) ≡ true → is_some (perms_of [] rest) ≡ true
+some_last perm rest string behind cut good end = sym (some_map (λ more. [] ++ more) (perms_of [] rest)) ∙ ap is_some (perms_last [] perm rest string behind cut good end)
+
+-- no entries are left where there are none, whatever came before
+pub none_left : (perms : List Perm) (o : Option (List Perm)) (whole : Option (List Perm)) → option_map (λ more. perms ++ more) o ≡ whole → is_some whole ≡ true → is_some o ≡ false → ⊥
+none_left perms o whole is some none = not_both some (ap is_some (sym is) ∙ some_map (λ more. perms ++ more) o ∙ none)

@@ -1,4 +1,5 @@
 pub mod StringLemmas
 pub mod EntryLemmas
+pub mod PathLemmas
 pub mod AskedLemmas
 mod PutLemmas

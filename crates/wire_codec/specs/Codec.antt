@@ -1,5 +1,5 @@
 -- What the readers of messages answer, beside the definitions of `xs_model`.
-use Rattle.std.specs.Prelude.{◌≡◌, ℕ, ◌^◌, ◌<◌, ◌≤◌, false, List, Option, Some, None, Result, Ok, Err, ⊤}
+use Rattle.std.specs.Prelude.{◌≡◌, ℕ, ◌^◌, ◌<◌, ◌≤◌, ◌==◌, Bool, true, false, List, [], ◌∷◌, Option, Some, None, is_some, Result, Ok, Err}
 use Rattle.std.specs.Borrow.{Bor}
 use Rattle.wire_codec.specs.declared.request.TreeOp.{TreeOp}
 use Rattle.wire_codec.specs.declared.request.TreeOp.TheVariants as op
@@ -41,6 +41,7 @@ operation_of (op.Write value) = model.Write value
 operation_of op.Mkdir = model.Mkdir
 operation_of op.Rm = model.Rm
 operation_of (op.SetPerms perms) = model.SetPerms perms
+operation_of (op.DirectoryPart offset) = model.DirectoryPart offset
 
 abbrev pub request_view : Request → model.Request
 request_view (Command command) = model.Command (operation_of command.op) command.path
@@ -63,23 +64,30 @@ AsksInForm (DomainPath domid) = domid ≤ 32751
 AsksInForm (IsIntroduced domid) = domid ≤ 32751
 AsksInForm (SetTarget domid target) = (domid ≤ 32751) × (target ≤ 32751)
 
--- the path of bytes, and Einval exactly where they are none
+-- whether bytes are the text of `/`
+abbrev pub is_root_text : List ℕ → Bool
+is_root_text [] = false
+is_root_text (b ∷ []) = b == 47
+is_root_text (b ∷ c ∷ bs) = false
+
+-- Want of memory is answered only where something is defined for which memory is wanted.
+-- The path of bytes, and Einval exactly where they are none
 abbrev pub IsPathOf : Result Path RequestErr → Result Path PathFault → Type 0
 IsPathOf (Ok path) defined = defined ≡ Ok path
 IsPathOf (Err Enosys) defined = ⊥
 IsPathOf (Err Einval) defined = ok_value defined ≡ None
-IsPathOf (Err NoMemory) defined = ⊤
+IsPathOf (Err NoMemory) defined = is_some (ok_value defined) ≡ true
 
 -- a part of a payload that is defined, and Einval exactly where there is none
 abbrev pub IsPart : {A : Type 0} → Result A RequestErr → Option A → Type 0
 IsPart (Ok part) defined = defined ≡ Some part
 IsPart (Err Enosys) defined = ⊥
 IsPart (Err Einval) defined = defined ≡ None
-IsPart (Err NoMemory) defined = ⊤
+IsPart (Err NoMemory) defined = is_some defined ≡ true
 
--- the request that is defined, or the refusal that is; want of memory is free
+-- the request that is defined, or the refusal that is; want of memory only in the place of a request
 abbrev pub IsRequest : Result Request RequestErr → Result model.Request WireErr → Type 0
 IsRequest (Ok request) defined = defined ≡ Ok (request_view request)
 IsRequest (Err Enosys) defined = defined ≡ Err wire.Enosys
 IsRequest (Err Einval) defined = defined ≡ Err wire.Einval
-IsRequest (Err NoMemory) defined = ⊤
+IsRequest (Err NoMemory) defined = is_some (ok_value defined) ≡ true

@@ -14,4 +14,4 @@ mod tests;
 
 pub use head::{put_message, read_header, write_message};
 pub use request::{Request, RequestErr, TreeCommand, TreeOp, read_request};
-pub use xs_model::message::{Header, WireErr, kind};
+pub use xs_model::message::{HEADER_SIZE, Header, MESSAGE_MAX, WireErr, kind};

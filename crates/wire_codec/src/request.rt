@@ -1,7 +1,7 @@
 //! What a message asks for.
 
 ghost use Rattle.std.specs.Prelude.{◌≡◌, ◌≤◌, IfOk};
-ghost use Rattle.xs_model.specs.Requests.{request_of, built_types, path_request, write_request, rm_request, set_perms_request, or_einval};
+ghost use Rattle.xs_model.specs.Requests.{request_of, read_types, path_request, write_request, rm_request, set_perms_request, part_request, or_einval};
 ghost use Rattle.wire_codec.specs.Codec.{IsRequest, AsksInForm, operation_of};
 
 use crate::{domain, payload};
@@ -29,6 +29,8 @@ pub enum TreeOp {
     Rm,
     /// Sets the permission entries.
     SetPerms(Perms),
+    /// Answers the names of the children from an offset into their list on, as many as one reply takes.
+    DirectoryPart { offset: u64 },
 }
 
 /// A command on the tree.
@@ -81,6 +83,9 @@ impl From<AllocError> for RequestErr {
 
 /// What a domain's message asks for, by the type in its header and its payload: the payloads of xenstore.txt.
 /// O(length of the payload).
+///
+/// A type that is not served and a payload outside its form are refused before memory is taken, so that no want of
+/// memory is told in their place.
 pub fn read_request(
     alloc: Global,
     head: Header,
@@ -88,7 +93,7 @@ pub fn read_request(
     domid: u16,
 ) -> Result<Request, RequestErr>
     requires { domid ≤ 32751 }
-    ensures asked { IsRequest result (request_of built_types head.kind payload.now domid) }
+    ensures asked { IsRequest result (request_of read_types head.kind payload.now domid) }
     // It is not RM of `/`, nor RELEASE of domain 0, nor SET_PERMS without entries, and its domids are in bounds.
     ensures in_form { IfOk result AsksInForm }
 {
@@ -105,6 +110,7 @@ pub fn read_request(
         kind::GET_DOMAIN_PATH => domain::domain_path(payload).ok_or(RequestErr::Einval),
         kind::IS_DOMAIN_INTRODUCED => domain::is_introduced(payload).ok_or(RequestErr::Einval),
         kind::SET_TARGET => domain::set_target(payload).ok_or(RequestErr::Einval),
+        kind::DIRECTORY_PART => directory_part(alloc, payload, domid),
         _ => Err(RequestErr::Enosys),
     }
 }
@@ -123,10 +129,13 @@ fn rm(alloc: Global, payload: &[u8], domid: u16) -> Result<Request, RequestErr>
     requires { domid ≤ 32751 }
     ensures { IsRequest result (or_einval (rm_request payload.now domid)) }
 {
-    let path = payload::one_path(alloc, payload, domid)?;
-    if path.is_root() {
+    let Some(string) = payload::one_string(payload) else {
+        return Err(RequestErr::Einval);
+    };
+    if payload::is_root(string) {
         return Err(RequestErr::Einval);
     }
+    let path = payload::path(alloc, string, domid)?;
     Ok(Request::Command(TreeCommand {
         op: TreeOp::Rm,
         path,
@@ -157,10 +166,31 @@ fn set_perms(alloc: Global, payload: &[u8], domid: u16) -> Result<Request, Reque
     let Some((string, entries)) = payload::cut_string(payload) else {
         return Err(RequestErr::Einval);
     };
+    if !payload::are_perms(entries) {
+        return Err(RequestErr::Einval);
+    }
     let path = payload::path(alloc, string, domid)?;
     let perms = payload::perms(alloc, entries)?;
     Ok(Request::Command(TreeCommand {
         op: TreeOp::SetPerms(perms),
+        path,
+    }))
+}
+
+/// DIRECTORY_PART: one string, a path, and an offset after it.
+fn directory_part(alloc: Global, payload: &[u8], domid: u16) -> Result<Request, RequestErr>
+    requires { domid ≤ 32751 }
+    ensures { IsRequest result (or_einval (part_request payload.now domid)) }
+{
+    let Some((string, field)) = payload::cut_string(payload) else {
+        return Err(RequestErr::Einval);
+    };
+    let Some(offset) = payload::offset(field) else {
+        return Err(RequestErr::Einval);
+    };
+    let path = payload::path(alloc, string, domid)?;
+    Ok(Request::Command(TreeCommand {
+        op: TreeOp::DirectoryPart { offset },
         path,
     }))
 }

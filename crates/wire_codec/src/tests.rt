@@ -40,6 +40,7 @@ fn told(got: &Result<Request, RequestErr>) -> &'static str {
             TreeOp::Mkdir => "mkdir",
             TreeOp::Rm => "rm",
             TreeOp::SetPerms(_) => "set perms",
+            TreeOp::DirectoryPart { .. } => "directory part",
         },
         Ok(Request::Introduce { .. }) => "introduce",
         Ok(Request::Release { .. }) => "release",
@@ -150,16 +151,46 @@ fn refuses_what_is_out_of_form(rt: HostRuntime) -> Result<(), Fail> {
         (19, b"7\08\09\0"),
         (19, b"7\032752\0"),
         (19, b"32752\08\0"),
+        (22, b"/a\0"),
+        (22, b"/a\0\0"),
+        (22, b"/a\00\0\0"),
+        (22, b"/a\018446744073709551616"),
+        (22, b"a b\00\0"),
     ];
     for (kind, payload) in cases {
         let got = read_request(rt.alloc(), head_of(kind), payload, 7);
         assert_eq!(rt; told(&got), "einval", "type {kind}");
     }
-    for kind in [0, 4, 6, 15, 18, 22] {
+    for kind in [0, 4, 6, 15, 18, 23] {
         let got = read_request(rt.alloc(), head_of(kind), b"/a\0", 7);
         assert_eq!(rt; told(&got), "enosys", "type {kind}");
     }
     Ok(())
+}
+
+#[test]
+fn reads_an_offset_to_the_end_or_to_one_nul(rt: HostRuntime) -> Result<(), Fail> {
+    let cases = [
+        (b"/a\00\0".as_slice(), 0),
+        (b"/a\0002", 2),
+        (b"/a\018446744073709551615\0", u64::MAX),
+    ];
+    for (payload, want) in cases {
+        let got = read_request(rt.alloc(), head_of(kind::DIRECTORY_PART), payload, 7);
+        assert_eq!(rt; offset(&got), Some(want));
+    }
+    Ok(())
+}
+
+/// The offset that a request has.
+fn offset(got: &Result<Request, RequestErr>) -> Option<u64> {
+    match got {
+        Ok(Request::Command(command)) => match &command.op {
+            TreeOp::DirectoryPart { offset } => Some(*offset),
+            _ => None,
+        },
+        _ => None,
+    }
 }
 
 #[test]

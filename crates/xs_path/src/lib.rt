@@ -12,7 +12,7 @@ mod order;
 mod tests;
 mod text;
 
-ghost use Rattle.std.specs.Prelude.{◌≡◌, ◌↔◌, ◌≤◌, ℕ, false, [], ◌∷◌, length, take, if◌then◌else◌, IsTrue, IfOk, option_to_list};
+ghost use Rattle.std.specs.Prelude.{◌≡◌, Err, ◌↔◌, ◌≤◌, ℕ, false, [], ◌∷◌, length, take, if◌then◌else◌, IsTrue, IfOk, option_to_list};
 ghost use Rattle.xs_base.specs.Memory.{Gives};
 ghost use Rattle.xs_model.specs.Paths.{path_of, parents, is_below, text};
 ghost use Rattle.xs_path.specs.Texts.{leaf_of};
@@ -60,7 +60,8 @@ impl Path {
     /// A refusal is the first fault of the bytes, or want of memory for a path without a fault.
     pub fn read(alloc: Global, bytes: &[u8], domid: u16) -> Result<Path, PathFault>
         requires { domid ≤ 32751 }
-        ensures { Gives PathFault.NoMemory result (path_of bytes.now domid) }
+        ensures gives { Gives PathFault.NoMemory result (path_of bytes.now domid) }
+        ensures fault { (fault : PathFault) → path_of bytes.now domid ≡ Err fault → result ≡ Err fault }
     {
         if let Some(fault) = fault::first_fault(bytes) {
             return Err(fault);

@@ -1,13 +1,16 @@
-use Rattle.std.proofs.Common.{◌∙◌, sym}
-use Rattle.wire_codec.proofs.EntryLemmas.{perms_uncut, perms_bad, perms_more, perms_last, behind_shorter}
+use Rattle.std.proofs.Common.{◌∙◌, sym, []}
+use Rattle.xs_model.specs.Requests.{perms_of}
+use Rattle.wire_codec.proofs.EntryLemmas.{none_uncut, none_bad, none_left, perms_more, perms_last, behind_shorter}
 use Rattle.wire_codec.proofs.payload.perms.Goals as goal
 
-pub returns-in_default : goal.returns-in_default
-returns-in_default c = sym c.entries.invariant ∙ perms_uncut c.entries.perms c.entries.rest.now (sym c.in_default.ensures)
+pub unreachable-requires : goal.unreachable-requires
+unreachable-requires c =
+    none_left c.entries.perms (perms_of [] c.entries.rest.now) (perms_of [] c.args.bytes.now) c.entries.invariant c.requires (none_uncut c.entries.perms c.entries.rest.now (sym c.in_default.ensures))
 
-pub returns-in_default-read_perm : goal.returns-in_default-read_perm
-returns-in_default-read_perm c =
-    sym c.entries.invariant ∙ perms_bad c.entries.perms c.entries.rest.now c.in-Some.string.now c.in-Some.behind.now c.in_default-read_perm.field-0 (sym c.in-Some.ensures) (sym c.in_default-read_perm.ensures)
+pub unreachable-requires-in_default-read_perm : goal.unreachable-requires-in_default-read_perm
+unreachable-requires-in_default-read_perm c =
+    none_left c.entries.perms (perms_of [] c.entries.rest.now) (perms_of [] c.args.bytes.now) c.entries.invariant c.requires
+    (none_bad c.entries.perms c.entries.rest.now c.in-Some.string.now c.in-Some.behind.now c.in_default-read_perm.field-0 (sym c.in-Some.ensures) (sym c.in_default-read_perm.ensures))
 
 pub returns-then-is_empty : goal.returns-then-is_empty
 returns-then-is_empty c =
