@@ -1,25 +1,33 @@
 -- The first field of a text, and how many fields follow.
-use Rattle.std.proofs.Common.{◌≡◌, ℕ, zero, suc, ◌+◌, ◌<◌, ◌==◌, Bool, true, false, cond, List, [], ◌∷◌, length, get_or, take, drop, Ok, Err, refl, add-one, arith}
+use Rattle.std.proofs.Common.{◌≡◌, ℕ, zero, suc, ◌+◌, ◌<◌, ◌==◌, Bool, true, false, cond, List, [], ◌∷◌, length, get_or, take, drop, Some, None, Ok, Err, refl, add-one, arith}
 use Rattle.std.proofs.lemmas.Bool.{ne_eqb}
+use Rattle.memchr.specs.Find.{IsFirstByte, is_byte}
 use Rattle.world_model.specs.declared.LineKind.TheVariants.{Fields}
 use Rattle.world_model.specs.Scripts.{◌>>=◌, fields_of, onto_field, no_field, one_field, two_fields, three_fields}
+use Rattle.guest_script.proofs.SearchLemmas.{none_before, none_at_all, is_there}
 
 -- before the first space
-pub first_field : (text : List ℕ) (i : ℕ) → ((k : ℕ) → k < i → get_or text k 0 ≡ 32 → ⊥) → i < length text → get_or text i 0 ≡ 32 → fields_of text ≡ take i text ∷ fields_of (drop (i + 1) text)
-first_field [] i none inside is = absurd (omega arith)
-first_field (b ∷ bs) zero none inside is = rw is refl
-first_field (b ∷ bs) (suc i) none inside is =
+before_space : (text : List ℕ) (i : ℕ) → ((k : ℕ) → k < i → get_or text k 0 ≡ 32 → ⊥) → i < length text → get_or text i 0 ≡ 32 → fields_of text ≡ take i text ∷ fields_of (drop (i + 1) text)
+before_space [] i none inside is = absurd (omega arith)
+before_space (b ∷ bs) zero none inside is = rw is refl
+before_space (b ∷ bs) (suc i) none inside is =
     let other = ne_eqb b 32 (none 0 (omega arith)) in
-    let rest = first_field bs i (λ k h. none (suc k) (omega arith)) (omega arith) is in
+    let rest = before_space bs i (λ k h. none (suc k) (omega arith)) (omega arith) is in
     rw (other, rest) (simp add-one)
 
 -- a text with no space is its only field
-pub only_field : (text : List ℕ) → ((k : ℕ) → k < length text → get_or text k 0 ≡ 32 → ⊥) → fields_of text ≡ text ∷ []
-only_field [] none = refl
-only_field (b ∷ bs) none =
+no_space : (text : List ℕ) → ((k : ℕ) → k < length text → get_or text k 0 ≡ 32 → ⊥) → fields_of text ≡ text ∷ []
+no_space [] none = refl
+no_space (b ∷ bs) none =
     let other = ne_eqb b 32 (none 0 (omega arith)) in
-    let rest = only_field bs (λ k h. none (suc k) (omega arith)) in
+    let rest = no_space bs (λ k h. none (suc k) (omega arith)) in
     rw (other, rest) refl
+
+pub first_field : (text : List ℕ) (i : ℕ) → IsFirstByte (is_byte 32) text (Some i) → fields_of text ≡ take i text ∷ fields_of (drop (i + 1) text)
+first_field text i found = before_space text i (none_before text 32 i found) found.0.high (is_there text 32 i found)
+
+pub only_field : (text : List ℕ) → IsFirstByte (is_byte 32) text None → fields_of text ≡ text ∷ []
+only_field text absent = no_space text (none_at_all text 32 absent)
 
 -- every text has a field, if only an empty one
 record HasField (fields : List (List ℕ)) : Type 0 where

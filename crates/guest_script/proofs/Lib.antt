@@ -2,4 +2,4 @@ pub mod LineLemmas
 pub mod FieldLemmas
 pub mod DraftLemmas
 pub mod SoundLemmas
-pub mod PrintLemmas
+mod SearchLemmas

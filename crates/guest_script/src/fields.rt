@@ -5,20 +5,19 @@ ghost use Rattle.world_model.specs.Scripts.{fields_of, no_field, one_field, two_
 ghost use Rattle.guest_script.specs.Views.{seen, fields_left};
 
 use crate::text_lines::behind;
+use memchr::memchr;
 use world_model::LineKind;
 
 /// The first field of a text, and what follows its space, where it has one. Two spaces make an empty field.
 /// O(length of the field).
-#[tactic(auto, using(crate::proofs::FieldLemmas::only_field))]
+#[tactic(auto, using(crate::proofs::FieldLemmas::first_field, crate::proofs::FieldLemmas::only_field))]
 pub fn cut_field(text: &[u8]) -> (&[u8], Option<&[u8]>)
     ensures { fields_of text.now ≡ result.0.now ∷ fields_left result.1 }
 {
-    for (i, byte) in text.iter().enumerate() {
-        if *byte == b' ' {
-            return (&text[..i], Some(behind(text, i)));
-        }
+    match memchr(b' ', text) {
+        Some(end) => (&text[..end], Some(behind(text, end))),
+        None => (text, None),
     }
-    (text, None)
 }
 
 /// No field.

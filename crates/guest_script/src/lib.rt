@@ -10,6 +10,7 @@ mod event;
 mod fault;
 mod fields;
 mod line;
+mod line_text;
 mod numbers;
 mod print;
 mod script;

@@ -6,10 +6,7 @@ ghost use Rattle.world_model.specs.Fronts.{front};
 ghost use Rattle.msg_reassembly.specs.Inboxes.{front_view, room};
 
 use byteorder::{ByteOrder, LittleEndian};
-use xs_model::message::PAYLOAD_MAX;
-
-/// The bytes of a header.
-const HEADER_LEN: usize = 16;
+use xs_model::message::{HEADER_SIZE, PAYLOAD_MAX};
 
 /// What stands in front of an inbox. Lengths are in bytes.
 #[derive(Clone, Copy, Debug, PartialEq, Eq)]
@@ -42,14 +39,14 @@ fn payload_len(bytes: &[u8]) -> u32
 pub(crate) fn front_of(bytes: &[u8]) -> Front
     ensures { front_view result ≡ front bytes.now }
 {
-    if bytes.len() < HEADER_LEN {
+    if bytes.len() < HEADER_SIZE {
         return Front::Part;
     }
     let payload = payload_len(bytes);
     if payload as usize > PAYLOAD_MAX {
         return Front::TooLong { len: payload };
     }
-    let len = HEADER_LEN + payload as usize;
+    let len = HEADER_SIZE + payload as usize;
     if bytes.len() < len {
         return Front::Part;
     }
@@ -60,12 +57,12 @@ pub(crate) fn front_of(bytes: &[u8]) -> Front
 pub(crate) fn room_of(bytes: &[u8]) -> usize
     ensures { result ≡ room bytes.now }
 {
-    if bytes.len() < HEADER_LEN {
-        return HEADER_LEN - bytes.len();
+    if bytes.len() < HEADER_SIZE {
+        return HEADER_SIZE - bytes.len();
     }
     let payload = payload_len(bytes) as usize;
     if payload > PAYLOAD_MAX {
         return 0;
     }
-    (HEADER_LEN + payload).saturating_sub(bytes.len())
+    (HEADER_SIZE + payload).saturating_sub(bytes.len())
 }

@@ -2,6 +2,7 @@
 
 use crate::{Front, Inbox, Ins, split};
 use std::test::Fail;
+use xs_model::message::MESSAGE_MAX;
 
 /// A request of type 2 for the path `/a`.
 const READ: [u8; 19] = [
@@ -24,10 +25,18 @@ fn takes_a_message_in_pieces(rt: HostRuntime) -> Result<(), Fail> {
     assert_eq!(rt; inbox.room(), 0);
     assert_eq!(rt; inbox.bytes(), READ.as_slice());
     assert_eq!(rt; inbox.front(), Front::Whole { len: 19 });
-    let mut message = [0; 4112];
+    let mut message = [0; MESSAGE_MAX];
     assert_eq!(rt; inbox.take_front(&mut message), 19);
     assert_eq!(rt; message[17], b'a');
     assert_eq!(rt; inbox.bytes().len(), 0);
+    Ok(())
+}
+
+#[test]
+fn skips_a_message(rt: HostRuntime) -> Result<(), Fail> {
+    let mut inbox = Inbox::of(rt.alloc(), &READ)?;
+    assert_eq!(rt; inbox.skip_front(), 19);
+    assert_eq!(rt; (inbox.bytes().len(), inbox.room()), (0, 16));
     Ok(())
 }
 

@@ -1,11 +1,10 @@
 -- The laws of a queue.
-use Rattle.std.proofs.Common.{◌≡◌, ℕ, zero, suc, ◌+◌, ◌-◌, ◌^◌, ◌<◌, ◌≤◌, Bool, true, false, ◌&&◌, List, [], ◌∷◌, ◌++◌, length, drop, refl, sym, ap, ap₂, ◌∙◌, arith, length-append}
-use Rattle.std.proofs.lemmas.List.{append-nil, append_assoc, drop_all}
-use Rattle.byteorder.specs.Endian.{little_bytes, little_number}
+use Rattle.std.proofs.Common.{◌≡◌, ℕ, zero, suc, ◌+◌, ◌-◌, ◌^◌, ◌<◌, ◌&&◌, List, [], ◌∷◌, ◌++◌, length, refl, sym, ap, ap₂, ◌∙◌, arith}
+use Rattle.std.proofs.lemmas.List.{drop_all}
 use Rattle.byteorder.specs.Numbers.{little_number-reads_back}
 use Rattle.xs_model.specs.declared.message.Header.{Header}
 use Rattle.xs_model.specs.Messages.{word_at, header_bytes}
-use Rattle.out_queues.specs.Queues.{message_length, begins_message, whole_behind, rest_after}
+use Rattle.xs_model.specs.Wholes.{message_length, whole_behind, rest_after}
 use Rattle.out_queues.specs.Laws.{WrittenIsWhole, StaysQueue, PiecesJoin, WholeLeaveNothing}
 use Rattle.out_queues.proofs.MessageLemmas.{both_true, le_is, message_there, message_length-append, whole_behind-first, whole_behind-within, whole_behind-rest_after}
 

@@ -3,7 +3,7 @@ use Rattle.std.specs.Prelude.{◌≡◌, ℕ, ◌+◌, ◌≤◌, true, List, �
 use Rattle.xs_model.specs.declared.message.Header.{Header}
 use Rattle.xs_model.specs.declared.message.TheConstants.{PAYLOAD_MAX}
 use Rattle.xs_model.specs.Messages.{header_bytes}
-use Rattle.out_queues.specs.Queues.{whole_behind, rest_after}
+use Rattle.xs_model.specs.Wholes.{whole_behind, rest_after}
 
 -- what is written as a message, with its length in its header, is one
 abbrev pub WrittenIsWhole : Type 0

@@ -2,13 +2,10 @@
 
 ghost use Rattle.std.specs.Prelude.{◌≡◌, ◌≤◌, length, drop, true};
 ghost use Rattle.xs_model.specs.Messages.{word_at};
-ghost use Rattle.out_queues.specs.Queues.{message_length, begins_message, whole_behind, rest_after};
+ghost use Rattle.xs_model.specs.Wholes.{message_length, begins_message, whole_behind, rest_after};
 
 use byteorder::{ByteOrder, LittleEndian};
-use xs_model::message::PAYLOAD_MAX;
-
-/// The bytes of a header.
-const HEADER_LEN: usize = 16;
+use xs_model::message::{HEADER_SIZE, PAYLOAD_MAX};
 
 /// The bytes from a place on.
 pub(crate) fn from(bytes: &[u8], at: usize) -> &[u8]
@@ -31,14 +28,14 @@ fn message_len(bytes: &[u8]) -> usize
     requires { 16 ≤ length bytes.now }
     ensures { result ≡ message_length bytes.now }
 {
-    HEADER_LEN + payload_len(bytes) as usize
+    HEADER_SIZE + payload_len(bytes) as usize
 }
 
 /// Whether a whole message begins here.
 fn begins_message(bytes: &[u8]) -> bool
     ensures { result ≡ begins_message bytes.now }
 {
-    bytes.len() >= HEADER_LEN
+    bytes.len() >= HEADER_SIZE
         && payload_len(bytes) as usize <= PAYLOAD_MAX
         && message_len(bytes) <= bytes.len()
 }

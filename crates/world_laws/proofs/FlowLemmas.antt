@@ -79,7 +79,7 @@ module _ (page : Page) (channel : Channel) (put got inputs outputs : List ℕ) (
     answered = ap (λ ys. (got ++ take n (held page.reply)) ++ (ys ++ channel.unsent)) (held_take page.reply f.good.reply n there) ∙ joined n got (held page.reply) channel.unsent ∙ f.answered;
   }
 
-  pub flows_took : (n : ℕ) → n ≤ filled page.request → Flows (with_request (take_some n page.request) page) (record { inbox = channel.inbox ++ take n (held page.request); unsent = channel.unsent }) put got inputs outputs
+  pub flows_took : (n : ℕ) → n ≤ filled page.request → Flows (with_request (take_some n page.request) page) (record { inbox = channel.inbox ++ take n (held page.request); unsent = channel.unsent; rest = channel.rest }) put got inputs outputs
   flows_took n there = record {
     good = record { request = holds_take page.request f.good.request n there; reply = f.good.reply };
     asked = ap (λ ys. inputs ++ ys) (ap (λ ys. (channel.inbox ++ take n (held page.request)) ++ ys) (held_take page.request f.good.request n there ∙ sym (append-nil (drop n (held page.request))))
@@ -87,8 +87,8 @@ module _ (page : Page) (channel : Channel) (put got inputs outputs : List ℕ) (
     answered = f.answered;
   }
 
-  pub flows_sent : (n : ℕ) → length (take n channel.unsent) ≤ free page.reply → Flows (with_reply (put_all (take n channel.unsent) page.reply) page) (record { inbox = channel.inbox; unsent = drop n channel.unsent }) put got inputs outputs
-  flows_sent n fits = record {
+  pub flows_sent : (n rest : ℕ) → length (take n channel.unsent) ≤ free page.reply → Flows (with_reply (put_all (take n channel.unsent) page.reply) page) (record { inbox = channel.inbox; unsent = drop n channel.unsent; rest = rest }) put got inputs outputs
+  flows_sent n rest fits = record {
     good = record { request = f.good.request; reply = holds_put page.reply f.good.reply (take n channel.unsent) fits };
     asked = f.asked;
     answered = ap (λ ys. got ++ ys) (ap (λ ys. ys ++ drop n channel.unsent) (held_put page.reply f.good.reply (take n channel.unsent) fits)
@@ -143,6 +143,14 @@ flows_new page channel h inbox unsent = record {
   good = good_empty page h;
   asked = λ i. inbox i ++ h.to_server.content i;
   answered = λ i. h.to_guest.content i ++ unsent i;
+}
+
+-- a page at the start, when bytes may be in the channel
+pub flows_begun : (page : Page) (channel : Channel) (put outputs : List ℕ) → Carries page empty_pipes → put ≡ channel.inbox → outputs ≡ channel.unsent → Flows page channel put [] [] outputs
+flows_begun page channel put outputs h inbox unsent = record {
+  good = good_empty page h;
+  asked = ap (λ ys. channel.inbox ++ ys) h.to_server.content ∙ append-nil channel.inbox ∙ sym inbox;
+  answered = ap (λ ys. ys ++ channel.unsent) h.to_guest.content ∙ sym unsent;
 }
 
 pub fresh_page_empty : (start : ℕ) → start < 2 ^ 32 → Carries (fresh_page start) empty_pipes

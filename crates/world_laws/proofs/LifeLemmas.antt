@@ -96,10 +96,10 @@ open_at c n (life ∷ lives) p =
     ] refl
 
 -- EACH CONNECTION HAS ONE
-abbrev is_open_of : ℕ → Life → Bool
+abbrev pub is_open_of : ℕ → Life → Bool
 is_open_of c life = life.is_open && life.conn == c
 
-open_found : (c n : ℕ) (lives : List Life) → list_any (is_open_of c) lives ≡ true → is_some (open_life_from n c lives) ≡ true
+pub open_found : (c n : ℕ) (lives : List Life) → list_any (is_open_of c) lives ≡ true → is_some (open_life_from n c lives) ≡ true
 open_found c n [] h = not_both h refl
 open_found c n (life ∷ lives) h =
     elim (is_open_of c life) as (λ b. (b || list_any (is_open_of c) lives) ≡ true → is_some (cond b (Some n) (open_life_from (n + 1) c lives)) ≡ true) [

@@ -4,11 +4,12 @@ use Rattle.std.specs.Ordering.{nat_cmp}
 use Rattle.std.specs.FinMap.{find}
 use Rattle.std.proofs.Common.{sym, refl, ap, ◌∙◌, inl, inr}
 use Rattle.machine_model.specs.Machine.{Item, Asked, Lost, step_with}
-use Rattle.machine_model.specs.History.{Past, past_after, run_with}
+use Rattle.machine_model.specs.History.{Past, past_after, run_with, crowded}
+use Rattle.machine_model.specs.declared.bounds.TheConstants.{HELD_LIMIT}
 use Rattle.world_model.specs.declared.Said.TheVariants as said
 use Rattle.world_model.specs.Rings.{is_bad, free, held, poked}
 use Rattle.world_model.specs.Fronts.{Front, Whole, TooLong, Part, front, intake}
-use Rattle.world_model.specs.Worlds.{World, Guest, Channel, Event, Send, Put, Intake, Do, Out, Take, Poke, ShowPage, Handover, Told, told, with_page, queued, put_at_most, got_at_most, page_words, for_guest, Served, served, for_served, dropped_for_index, took, intake_at, intake_event, channels_after, without_front, crowded, held_limit, done_unless, do_step, do_at, do_event, sent_some, out_ring, out_event, event_with}
+use Rattle.world_model.specs.Worlds.{World, Guest, Channel, Event, Send, Put, Intake, Do, Out, Take, Poke, ShowPage, Handover, Told, told, with_page, queued, put_at_most, got_at_most, page_words, for_guest, Served, served, for_served, dropped_for_index, took, intake_at, intake_event, channels_after, without_front, unsent_of, done_unless, do_step, do_at, do_event, sent_some, out_ring, out_event, event_with}
 use Rattle.world_model.specs.Transcripts.{world_after_all, history_of}
 use Rattle.world_model.specs.Served.{Account, past_with, account_after, account_of}
 
@@ -67,8 +68,8 @@ module _ (types : List ℕ) (w : World) where
   do_at_step d at (Whole n) =
       let item = Asked at.conn (take n at.channel.inbox) in
       let channels = channels_after (step_with types w.machine item) (without_front n w at) in
-      if_step (nat_le held_limit (length at.channel.unsent)) (told w (said.Held (length at.channel.unsent))) (do_step types n w at item)
-      (inl (refl, refl)) (done_step item channels (crowded channels))
+      if_step (nat_le HELD_LIMIT (length at.channel.unsent)) (told w (said.Held (length at.channel.unsent))) (do_step types n w at item)
+      (inl (refl, refl)) (done_step item channels (crowded (unsent_of channels)))
 
   out_step : (d max : ℕ) (at : Served) → IsStoreStep types w (out_event d max w at)
   out_step d max at =

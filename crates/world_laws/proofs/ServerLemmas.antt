@@ -10,6 +10,7 @@ use Rattle.machine_model.specs.History.{Life}
 use Rattle.world_model.specs.declared.Said.TheVariants as said
 use Rattle.world_model.specs.Rings.{Page, free, held, put_all, take_some, with_request, with_reply}
 use Rattle.world_model.specs.Fronts.{intake}
+use Rattle.xs_model.specs.Wholes.{rest_after}
 use Rattle.world_model.specs.Worlds.{World, Guest, Channel, Intake, Out, Told, told, with_page, with_channel, Served, served_with, served_by, served_at, for_served, server_event, took, sent_some}
 use Rattle.world_model.specs.Served.{PageLog, Account}
 use Rattle.world_laws.proofs.EntryLemmas.{not_none, found_same, found_other}
@@ -130,7 +131,7 @@ module _ (types : List ℕ) (a : Account) (s : Sound a) (d : ℕ) (at : Served) 
   took_flows : (max : ℕ) (p g i o : List ℕ) →
       let n = intake at.channel.inbox (take max (held at.guest.page.request)) in
       Flows at.guest.page at.channel p g i o
-      → Flows (with_request (take_some n at.guest.page.request) at.guest.page) (record { inbox = at.channel.inbox ++ take n (held at.guest.page.request); unsent = at.channel.unsent }) p g i o
+      → Flows (with_request (take_some n at.guest.page.request) at.guest.page) (record { inbox = at.channel.inbox ++ take n (held at.guest.page.request); unsent = at.channel.unsent; rest = at.channel.rest }) p g i o
   took_flows max p g i o f =
       let whole = held at.guest.page.request in
       let some = intake_within at.channel.inbox (take max whole) in
@@ -141,7 +142,7 @@ module _ (types : List ℕ) (a : Account) (s : Sound a) (d : ℕ) (at : Served) 
   took_after max =
       let n = intake at.channel.inbox (take max (held at.guest.page.request)) in
       let page = with_request (take_some n at.guest.page.request) at.guest.page in
-      let channel : Channel = record { inbox = at.channel.inbox ++ take n (held at.guest.page.request); unsent = at.channel.unsent } in
+      let channel : Channel = record { inbox = at.channel.inbox ++ take n (held at.guest.page.request); unsent = at.channel.unsent; rest = at.channel.rest } in
       quiet types a s (Intake d max) (put nat_cmp d (record { page = page; outbox = at.guest.outbox }) a.world.guests) (put nat_cmp at.conn channel a.world.channels) (said.Took n) [] []
       (fits_server a.world d at s.fits is page channel)
       (λ log life t. server_state a.world d at s.fits is page channel log life (took_flows max) t)
@@ -152,7 +153,8 @@ module _ (types : List ℕ) (a : Account) (s : Sound a) (d : ℕ) (at : Served) 
       let bytes = take n at.channel.unsent in
       let few : length bytes ≤ free at.guest.page.reply = omega (arith, length-take n at.channel.unsent) in
       let page = with_reply (put_all bytes at.guest.page.reply) at.guest.page in
-      let channel : Channel = record { inbox = at.channel.inbox; unsent = drop n at.channel.unsent } in
+      let rest = rest_after at.channel.rest n at.channel.unsent in
+      let channel : Channel = record { inbox = at.channel.inbox; unsent = drop n at.channel.unsent; rest = rest } in
       quiet types a s (Out d max) (put nat_cmp d (record { page = page; outbox = at.guest.outbox }) a.world.guests) (put nat_cmp at.conn channel a.world.channels) (said.Sent n) [] []
       (fits_server a.world d at s.fits is page channel)
-      (λ log life t. server_state a.world d at s.fits is page channel log life (λ p g i o f. flows_sent at.guest.page at.channel p g i o f n few) t)
+      (λ log life t. server_state a.world d at s.fits is page channel log life (λ p g i o f. flows_sent at.guest.page at.channel p g i o f n rest few) t)

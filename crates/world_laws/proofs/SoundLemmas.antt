@@ -110,7 +110,7 @@ change_log b (ShowPage d) told log = refl
 change_log b Handover told log = refl
 
 abbrev pub with_parts : List (ℕ × Guest) → List (ℕ × Channel) → World → World
-with_parts guests channels w = record { machine = w.machine; guests = guests; channels = channels }
+with_parts guests channels w = record { machine = w.machine; globals = w.globals; guests = guests; channels = channels }
 
 pub quiet : (types : List ℕ) (a : Account) → Sound a → (e : Event) (guests : List (ℕ × Guest)) (channels : List (ℕ × Channel)) (said : Said) (given taken : List ℕ)
     → Fits (with_parts guests channels a.world)

@@ -1,5 +1,5 @@
--- A world with nothing under way has a sound account, and head lines of scripts make such worlds.
-use Rattle.std.specs.Prelude.{◌≡◌, ℕ, ◌<◌, ◌^◌, ◌==◌, Bool, true, false, cond, List, [], ◌∷◌, filter_map, Option, Some, None, is_some, option_map, slice_get}
+-- A world at its start has a sound account, and head lines of scripts make such worlds.
+use Rattle.std.specs.Prelude.{◌≡◌, ℕ, ◌<◌, ◌^◌, ◌==◌, Bool, true, false, cond, List, [], ◌∷◌, map, filter_map, Option, Some, None, is_some, option_map, slice_get}
 use Rattle.std.specs.List.{AllByRecursion}
 use Rattle.std.specs.Ordering.{nat_cmp, eq_by_cmp}
 use Rattle.std.specs.Cmp.{unsigned_tied}
@@ -10,77 +10,103 @@ use Rattle.xs_model.proofs.Maps.{not_both, not_Some, from_Some}
 use Rattle.machine_model.specs.declared.ConnSpec.TheVariants.{Ring as RingSpec}
 use Rattle.machine_model.specs.Connections.{Connection, Connections, fresh, ring_of, has_ring, least_free}
 use Rattle.machine_model.specs.Machine.{new_machine}
-use Rattle.machine_model.specs.History.{Life, new_life, life_if_new, with_new_lives}
-use Rattle.world_model.specs.Worlds.{World, Guest, empty_channel, fresh_guest, new_world, ring_domid, domain_added, add_domain}
+use Rattle.machine_model.proofs.Lists.{all_map_of, all_weaker}
+use Rattle.machine_model.specs.History.{Life, begun_life, bytes_or_none, unsent_to}
+use Rattle.world_model.specs.Worlds.{World, Guest, Channel, empty_channel, channel_or_empty, unsent_of, fresh_guest, new_world, ring_domid, domain_added, add_domain}
 use Rattle.world_model.specs.Scripts.{DomainLine}
 use Rattle.world_model.specs.Transcripts.{with_domains}
-use Rattle.world_model.specs.Served.{PageLog, account_at_start, new_log, life_of_ring, open_life_from, log_for}
+use Rattle.world_model.specs.Served.{PageLog, account_at_start, begun_log, inbox_at, new_log, life_of_ring, open_life_from, log_for}
 use Rattle.world_laws.specs.Laws.{is_log_of, HasLogs, HasEmptyPage, IsStart}
-use Rattle.world_laws.proofs.EntryLemmas.{value_of, mapped_is, mapped_some, found_same, found_other, each_is_found, each_any, each_of, each_at, any_of, any_found}
+use Rattle.world_laws.proofs.EntryLemmas.{value_of, mapped_some, found_same, found_other, found_mapped, each_is_found, each_any, each_of, each_at, any_mapped, any_of, any_found}
 use Rattle.world_laws.proofs.ConnLemmas.{ends, one_ring_each, ring_ends, ends_ring, has_one_ring_each}
 use Rattle.world_laws.proofs.StepLemmas.{Moved, moved_rings, new_ends, old_ends, new_moves}
-use Rattle.world_laws.proofs.FlowLemmas.{flows_new, fresh_page_empty}
+use Rattle.world_laws.proofs.FlowLemmas.{flows_begun, fresh_page_empty}
 use Rattle.world_laws.proofs.SoundLemmas.{State, HasState, Fits, IsOfConn, Sound}
-use Rattle.world_laws.proofs.LifeLemmas.{new_is, IsOpenAt, open_at, log_found}
+use Rattle.world_laws.proofs.LifeLemmas.{IsOpenAt, open_at, is_open_of, open_found}
 
 module _ (w : World) (start : IsStart w) where
   abbrev conns : Connections
   conns = w.machine.conns
 
+  abbrev begun : ℕ × Connection → Life
+  begun e = begun_life e.0 (unsent_to e.0 (unsent_of w.channels))
+
   abbrev lives : List Life
-  lives = with_new_lives conns []
+  lives = map begun conns
 
   start_fits : Fits w
   start_fits = record {
     ids = start.ids;
     rings = one_ring_each conns start.rings;
     pages = λ c d e. ap is_some (start.pages d (ends_ring conns c d e)).there;
-    channels = λ c. ap is_some (start.channels c) ∙ mapped_is (λ (conn : Connection). empty_channel) (find nat_cmp c conns);
+    channels = start.channels;
   }
 
   start_lives : AllByRecursion (IsOfConn conns) lives
   start_lives =
-      each_of (IsOfConn conns) (λ (e : ℕ × Connection). is_some (find nat_cmp e.0 conns) ≡ true) (life_if_new [])
-      (λ e life found r. subst (IsOfConn conns) (sym (new_is [] e life r)) (λ h. found)) conns (each_is_found conns)
+      all_map_of (IsOfConn conns) begun conns
+      (all_weaker (λ (e : ℕ × Connection). is_some (find nat_cmp e.0 conns) ≡ true) (λ e. IsOfConn conns (begun e)) (λ e found opened. found) conns (each_is_found conns))
 
-  all_new : AllByRecursion (λ (life : Life). life ≡ new_life life.conn) lives
-  all_new =
-      each_of (λ (life : Life). life ≡ new_life life.conn) (λ (e : ℕ × Connection). is_some (find nat_cmp e.0 conns) ≡ true) (life_if_new [])
-      (λ e life found r. let is = new_is [] e life r in is ∙ ap new_life (sym (ap (λ (l : Life). l.conn) is))) conns (each_is_found conns)
+  abbrev begun_as : Life → Life
+  begun_as life = begun_life life.conn (unsent_to life.conn (unsent_of w.channels))
 
-  start_state : (d c p : ℕ) → ring_of d conns ≡ Some c → IsOpenAt c 0 lives p → HasState w lives (new_log d p)
+  all_begun : AllByRecursion (λ (life : Life). life ≡ begun_as life) lives
+  all_begun = all_map_of (λ (life : Life). life ≡ begun_as life) begun conns (each_any (λ (e : ℕ × Connection). begun e ≡ begun_as (begun e)) (λ e. refl) conns)
+
+  unsent_is : (c : ℕ) (channel : Channel) → find nat_cmp c w.channels ≡ Some channel → unsent_to c (unsent_of w.channels) ≡ channel.unsent
+  unsent_is c channel e = ap bytes_or_none (found_mapped (λ k (x : Channel). x.unsent) c w.channels ∙ ap (option_map (λ (x : Channel). x.unsent)) e)
+
+  start_state : (d c p : ℕ) → ring_of d conns ≡ Some c → IsOpenAt c 0 lives p → HasState w lives (begun_log w (new_log d p))
   start_state d c p ring at =
-      let is : at.life ≡ new_life c = each_at (λ (life : Life). life ≡ new_life life.conn) lives at.i at.life all_new at.stands ∙ ap new_life at.conn in
+      let is : at.life ≡ begun_life c (unsent_to c (unsent_of w.channels)) =
+      each_at (λ (life : Life). life ≡ begun_as life) lives at.i at.life all_begun at.stands ∙ ap (λ k. begun_life k (unsent_to k (unsent_of w.channels))) at.conn
+      in
       let of_ring : ends conns c ≡ Some (Some d) = ring_ends conns start.ids.rising d c ring in
       let conn = mapped_some (λ (conn : Connection). ring_domid conn.spec) (find nat_cmp c conns) (Some d) of_ring in
+      let channel = value_of (find nat_cmp c w.channels) (start.channels c ∙ ap is_some conn.1) in
       let page = start.pages d (ap is_some ring) in
       record {
         life = at.life;
         stands = ap (slice_get lives) (at.place ∙ zero-add at.i) ∙ at.stands;
-        state = subst (λ life. State w (new_log d p) life) (sym is) (inr (inr (record {
+        state = subst (λ life. State w (begun_log w (new_log d p)) life) (sym is) (inr (inr (record {
           there = refl;
           opened = refl;
           ring = of_ring;
           guest = page.guest;
           found = page.there;
-          channel = empty_channel;
-          channel_found = start.channels c ∙ ap (option_map (λ (conn : Connection). empty_channel)) conn.1;
-          flows = λ u. flows_new page.guest.page empty_channel page.empty refl refl;
+          channel = channel.0;
+          channel_found = channel.1;
+          flows = λ u. flows_begun page.guest.page channel.0 _ _ page.empty
+              (ap (inbox_at w) ring ∙ ap (λ o. (channel_or_empty o).inbox) channel.1) (unsent_is c channel.0 channel.1);
         })));
       }
 
-  start_log_by : (d : ℕ) (log : PageLog) (o : Option ℕ) → ring_of d conns ≡ o → option_map (new_log d) (life_of_ring lives o) ≡ Some log → HasState w lives log
+  start_log_by : (d : ℕ) (log : PageLog) (o : Option ℕ) → ring_of d conns ≡ o → option_map (new_log d) (life_of_ring lives o) ≡ Some log → HasState w lives (begun_log w log)
   start_log_by d log None ring e = not_Some e
   start_log_by d log (Some c) ring e =
       let x = mapped_some (new_log d) (open_life_from 0 c lives) log e in
-      subst (HasState w lives) (from_Some x.2) (start_state d c x.0 ring (open_at c 0 lives x.0 x.1))
+      subst (λ l. HasState w lives (begun_log w l)) (from_Some x.2) (start_state d c x.0 ring (open_at c 0 lives x.0 x.1))
 
-  start_logged : HasLogs conns (filter_map (λ (e : ℕ × Guest). log_for conns lives e.0) w.guests)
+  has_begun_life : (c : ℕ) → is_some (find nat_cmp c conns) ≡ true → is_some (open_life_from 0 c lives) ≡ true
+  has_begun_life c there =
+      open_found c 0 lives (any_mapped (is_open_of c) (λ (e : ℕ × Connection). c == e.0) begun (λ e t. eq-eqb e.0 c (sym (eqb-true c e.0 t))) conns (any_found c conns there))
+
+  begun_log_found : (d c e : ℕ) → ring_of d conns ≡ Some c → is_some (find nat_cmp c conns) ≡ true → (d == e) ≡ true → (log : PageLog) × (log_for conns lives e ≡ Some log) × (is_log_of d log ≡ true)
+  begun_log_found d c e ring there t =
+      let same = eqb-true d e t in
+      let p = value_of (open_life_from 0 c lives) (has_begun_life c there) in
+      (new_log e p.0, ap (λ o. option_map (new_log e) (life_of_ring lives o)) (ap (λ k. ring_of k conns) (sym same) ∙ ring) ∙ ap (option_map (new_log e)) p.1, eq-eqb e d (sym same))
+
+  abbrev first_logs : List PageLog
+  first_logs = filter_map (λ (e : ℕ × Guest). log_for conns lives e.0) w.guests
+
+  start_logged : HasLogs conns (map (begun_log w) first_logs)
   start_logged d ring =
       let c = value_of (ring_of d conns) ring in
       let conn = mapped_some (λ (conn : Connection). ring_domid conn.spec) (find nat_cmp c.0 conns) (Some d) (ring_ends conns start.ids.rising d c.0 c.1) in
-      any_of (is_log_of d) (λ (e : ℕ × Guest). d == e.0) (λ (e : ℕ × Guest). log_for conns lives e.0)
-      (λ e same. log_found conns [] d c.0 e.0 c.1 (ap is_some conn.1) same) w.guests (any_found d w.guests (ap is_some (start.pages d ring).there))
+      any_mapped (is_log_of d) (is_log_of d) (begun_log w) (λ log t. t) first_logs
+      (any_of (is_log_of d) (λ (e : ℕ × Guest). d == e.0) (λ (e : ℕ × Guest). log_for conns lives e.0)
+      (λ e same. begun_log_found d c.0 e.0 c.1 (ap is_some conn.1) same) w.guests (any_found d w.guests (ap is_some (start.pages d ring).there)))
 
   pub start_sound : Sound (account_at_start w)
   start_sound = record {
@@ -88,7 +114,8 @@ module _ (w : World) (start : IsStart w) where
     fits = start_fits;
     lives = start_lives;
     logged = start_logged;
-    logs = each_of (HasState w lives) (λ (e : ℕ × Guest). e ≡ e) (λ e. log_for conns lives e.0) (λ e log h r. start_log_by e.0 log (ring_of e.0 conns) refl r) w.guests (each_any (λ (e : ℕ × Guest). e ≡ e) (λ e. refl) w.guests);
+    logs = all_map_of (HasState w lives) (begun_log w) first_logs
+        (each_of (λ log. HasState w lives (begun_log w log)) (λ (e : ℕ × Guest). e ≡ e) (λ (e : ℕ × Guest). log_for conns lives e.0) (λ e log h r. start_log_by e.0 log (ring_of e.0 conns) refl r) w.guests (each_any (λ (e : ℕ × Guest). e ≡ e) (λ e. refl) w.guests));
   }
 
 -- SCRIPTS. A new world
@@ -118,7 +145,7 @@ new_start = record {
     }
     page_by d false t ring = not_both ring refl
 
-    channel_by : (b : Bool) → cond b (Some empty_channel) None ≡ option_map (λ (conn : Connection). empty_channel) (cond b (Some (fresh (RingSpec 0 None 0))) None)
+    channel_by : (b : Bool) → is_some (cond b (Some empty_channel) None) ≡ is_some (cond b (Some (fresh (RingSpec 0 None 0))) None)
     channel_by true = refl
     channel_by false = refl
 
@@ -159,11 +186,11 @@ module _ (d start : ℕ) (low : start < 2 ^ 32) (w : World) (is : IsStart w) whe
           | inr apart ↦ ends_ring w.machine.conns r.0 q (sym (old_ends w.machine is.ids d new_conn refl [] refl none r.0 apart) ∙ at)
         ]
 
-    channel_at : (k : ℕ) → find nat_cmp k (put nat_cmp new_id empty_channel w.channels) ≡ option_map (λ (x : Connection). empty_channel) (find nat_cmp k after)
+    channel_at : (k : ℕ) → is_some (find nat_cmp k (put nat_cmp new_id empty_channel w.channels)) ≡ is_some (find nat_cmp k after)
     channel_at k = elim (cases_Bool (k == new_id)) [
-      | inl t ↦ subst (λ j. find nat_cmp j (put nat_cmp new_id empty_channel w.channels) ≡ option_map (λ (x : Connection). empty_channel) (find nat_cmp j after)) (sym (eqb-true k new_id t))
-          (found_same new_id empty_channel w.channels ∙ sym (ap (option_map (λ (x : Connection). empty_channel)) (found_same new_id new_conn w.machine.conns)))
-      | inr f ↦ found_other k new_id empty_channel w.channels f ∙ is.channels k ∙ sym (ap (option_map (λ (x : Connection). empty_channel)) (found_other k new_id new_conn w.machine.conns f))
+      | inl t ↦ subst (λ j. is_some (find nat_cmp j (put nat_cmp new_id empty_channel w.channels)) ≡ is_some (find nat_cmp j after)) (sym (eqb-true k new_id t))
+          (ap is_some (found_same new_id empty_channel w.channels) ∙ sym (ap is_some (found_same new_id new_conn w.machine.conns)))
+      | inr f ↦ ap is_some (found_other k new_id empty_channel w.channels f) ∙ is.channels k ∙ sym (ap is_some (found_other k new_id new_conn w.machine.conns f))
     ]
 
     connected : IsStart (domain_added d start None w)

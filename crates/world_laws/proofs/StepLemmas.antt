@@ -12,16 +12,17 @@ use Rattle.xs_model.specs.Paths.{Path}
 use Rattle.xs_model.specs.Perms.{Caller}
 use Rattle.xs_model.specs.Trees.{Tree}
 use Rattle.xs_model.specs.Messages.{Message, message_bytes, string, ok_payload, header_of, payload_of}
-use Rattle.xs_model.specs.Requests.{Request, Command, Watch as WatchRequest, Unwatch, Start, End, Introduce, Release, DomainPath, IsIntroduced, SetTarget, ResetWatches, request_of, introduce_domain, release_domain}
-use Rattle.xs_model.specs.Commands.{Outcome, command}
+use Rattle.xs_model.specs.Requests.{Operation, Request, Command, Watch as WatchRequest, Unwatch, Start, End, Introduce, Release, DomainPath, IsIntroduced, SetTarget, ResetWatches, request_of, introduce_domain, release_domain}
+use Rattle.xs_model.specs.Commands.{Outcome}
+use Rattle.xs_model.specs.Generations.{generation_of}
 use Rattle.xs_model.specs.Changes.{changed_paths}
 use Rattle.xs_model.specs.Watches.{Watch, same_watch, first_event, special_owed}
 use Rattle.xs_model.proofs.Maps.{from_Some, sorted_put, sorted_where, sorted_map, keys_put, keys_where, keys_map, keys_found, found_map}
 use Rattle.machine_model.specs.declared.ConnSpec.{ConnSpec}
 use Rattle.machine_model.specs.declared.ConnSpec.TheVariants.{Ring, Socket}
 use Rattle.machine_model.specs.Connections.{Connection, Connections, fresh, caller_of, ring_of, has_ring, with_evtchn, with_target, least_free}
-use Rattle.machine_model.specs.Transactions.{Transaction, Ran, started, run_on, wrote, is_in_conflict}
-use Rattle.machine_model.specs.Machine.{Machine, Item, Asked, Lost, Done, Send, refused, replied, granted, with_conn, without_conn, with_watches, with_transaction, without_transaction, with_spec, told, tell, special_sends, sends_to, changed_machine, done_command, command_inside, run_command, transaction_limit, start, committed, finish, close, may_watch, add_watch, remove_watch, if_control, set_spec, introduce, release, set_target, act, act_or_refuse, step_of_conn, step_with, reply_message}
+use Rattle.machine_model.specs.Transactions.{Transaction, started, outcome_on, run_on, wrote, is_in_conflict}
+use Rattle.machine_model.specs.Machine.{Machine, Item, Asked, Lost, Done, Send, refused, replied, granted, with_conn, without_conn, with_watches, with_transaction, without_transaction, with_spec, told, tell, special_sends, sends_to, changed_machine, ran_by, done_command, command_inside, run_command, transaction_limit, start, committed, finish, close, may_watch, add_watch, remove_watch, if_control, set_spec, introduce, release, set_target, act, act_or_refuse, step_of_conn, step_with, reply_message}
 use Rattle.machine_model.specs.History.{sent_to}
 use Rattle.machine_model.specs.Limits.{HasIds}
 use Rattle.machine_model.proofs.LimitLemmas.{least_free-is}
@@ -117,15 +118,15 @@ module _ (m : Machine) (ids : HasIds m.conns) (c : ℕ) (conn : Connection) (the
   own_kept : (new : Connection) → ring_domid new.spec ≡ ring_domid conn.spec → Kept m.conns (with_conn c new m).conns
   own_kept new same = put_kept m ids c conn new there same
 
-  inside_kept : (id : ℕ) (ran : Ran) (found : Option Transaction) → Kept m.conns (command_inside m c conn id ran found).machine.conns
-  inside_kept id ran None = all_kept m ids
-  inside_kept id ran (Some t) = own_kept _ refl
+  inside_kept : (id : ℕ) (operation : Operation) (path : Path) (found : Option Transaction) → Kept m.conns (command_inside m c conn id operation path found).machine.conns
+  inside_kept id operation path None = all_kept m ids
+  inside_kept id operation path (Some t) = own_kept _ refl
 
-  run_command_kept : (tx : ℕ) (ran : Ran) → Kept m.conns (run_command m c conn tx ran).machine.conns
-  run_command_kept tx ran =
-      let outcome : Outcome = command ran.operation ran.path ran.caller m.tree in
-      if_kept m (tx == 0) (done_command m outcome) (command_inside m c conn tx ran (find nat_cmp tx conn.transactions))
-      (change_kept m ids outcome.tree outcome.written) (inside_kept tx ran (find nat_cmp tx conn.transactions))
+  run_command_kept : (tx : ℕ) (operation : Operation) (path : Path) → Kept m.conns (run_command m c conn tx operation path).machine.conns
+  run_command_kept tx operation path =
+      let outcome : Outcome = outcome_on m.tree (ran_by conn operation path (generation_of m.gens path)) in
+      if_kept m (tx == 0) (done_command m outcome) (command_inside m c conn tx operation path (find nat_cmp tx conn.transactions))
+      (change_kept m ids outcome.tree outcome.written) (inside_kept tx operation path (find nat_cmp tx conn.transactions))
 
   start_kept : (tx : ℕ) → Kept m.conns (start m c conn tx).machine.conns
   start_kept tx =
@@ -286,7 +287,7 @@ module _ (m : Machine) (ids : HasIds m.conns) where
     release_moves (Some id) = lost_moves id ((c, reply) ∷ special_sends release_domain (without_conn id m).conns)
 
     act_moves : (tx : ℕ) (request : Request) → Moves (act m c conn tx request)
-    act_moves tx (Command operation path) = kept_done (act m c conn tx (Command operation path)) (run_command_kept m ids c conn there tx (record { operation = operation; path = path; caller = caller_of conn.spec }))
+    act_moves tx (Command operation path) = kept_done (act m c conn tx (Command operation path)) (run_command_kept m ids c conn there tx operation path)
     act_moves tx (WatchRequest wpath token) = kept_done (act m c conn tx (WatchRequest wpath token)) (add_watch_kept m ids c conn there (record { wpath = wpath; token = token }))
     act_moves tx (Unwatch wpath token) = kept_done (act m c conn tx (Unwatch wpath token)) (remove_watch_kept m ids c conn there (record { wpath = wpath; token = token }))
     act_moves tx Start = kept_done (act m c conn tx Start) (start_kept m ids c conn there tx)

@@ -8,12 +8,13 @@ use Rattle.std.proofs.lemmas.Bool.{cases_Bool, false_from_ne_true}
 use Rattle.xs_model.proofs.Maps.{not_both, from_Some}
 use Rattle.machine_model.specs.Connections.{Connection, Connections}
 use Rattle.machine_model.specs.Machine.{Item, Asked, Lost, Send as StoreSend, step_with}
-use Rattle.machine_model.specs.History.{taken_from, sent_to}
+use Rattle.machine_model.specs.History.{taken_from, sent_to, crowded}
+use Rattle.machine_model.specs.declared.bounds.TheConstants.{HELD_LIMIT}
 use Rattle.world_model.specs.declared.Said.{Said}
 use Rattle.world_model.specs.declared.Said.TheVariants as said
 use Rattle.world_model.specs.Rings.{is_bad, free, held, with_error}
 use Rattle.world_model.specs.Fronts.{Front, Whole, TooLong, Part, front, intake}
-use Rattle.world_model.specs.Worlds.{World, Guest, Channel, Event, Intake, Do, Out, Told, told, empty_channel, ring_domid, with_fresh_guests, without_channel, channel_or_empty, channel_after, channels_after, without_front, crowded, Served, dropped, dropped_for_index, took, intake_at, intake_event, held_limit, done_unless, do_step, do_at, do_event, sent_some, out_event, event_with}
+use Rattle.world_model.specs.Worlds.{World, Guest, Channel, Event, Intake, Do, Out, Told, told, empty_channel, ring_domid, with_fresh_guests, without_channel, channel_or_empty, channel_after, channels_after, without_front, unsent_of, Served, dropped, dropped_for_index, took, intake_at, intake_event, done_unless, do_step, do_at, do_event, sent_some, out_event, event_with}
 use Rattle.world_model.specs.Served.{PageLog, Account, IsFront, log_change}
 use Rattle.world_laws.proofs.EntryLemmas.{value_of, not_none, none_of, mapped_is, mapped_some, mapped_none, found_same, found_other, found_mapped, lost_same, lost_other}
 use Rattle.world_laws.proofs.ConnLemmas.{ends}
@@ -33,7 +34,7 @@ module _ (w : World) (fits : Fits w) (d : ℕ) (at : Served) (is : IsServed w d 
   dropped_guests = put nat_cmp d (record { page = with_error error at.guest.page; outbox = at.guest.outbox }) w.guests
 
   abbrev dropped_world : World
-  dropped_world = record { machine = (step_with [] w.machine (Lost at.conn)).0; guests = dropped_guests; channels = without_channel at.conn w.channels }
+  dropped_world = record { machine = (step_with [] w.machine (Lost at.conn)).0; globals = w.globals; guests = dropped_guests; channels = without_channel at.conn w.channels }
 
   dropped_channels : (c : ℕ) → is_some (find nat_cmp c (without_channel at.conn w.channels)) ≡ is_some (find nat_cmp c left)
   dropped_channels c = elim (cases_Bool (at.conn == c)) [
@@ -91,7 +92,7 @@ module _ (types : List ℕ) (w : World) (fits : Fits w) (d n : ℕ) (at : Served
   sends = (step_with types w.machine item).1
 
   abbrev rest : Channel
-  rest = record { inbox = drop n at.channel.inbox; unsent = at.channel.unsent }
+  rest = record { inbox = drop n at.channel.inbox; unsent = at.channel.unsent; rest = at.channel.rest }
 
   abbrev fronts : List (ℕ × Channel)
   fronts = put nat_cmp at.conn rest w.channels
@@ -103,7 +104,7 @@ module _ (types : List ℕ) (w : World) (fits : Fits w) (d n : ℕ) (at : Served
   done_guests = with_fresh_guests (made w.machine.conns after) w.guests
 
   abbrev done_world : World
-  done_world = record { machine = (step_with types w.machine item).0; guests = done_guests; channels = done_channels }
+  done_world = record { machine = (step_with types w.machine item).0; globals = w.globals; guests = done_guests; channels = done_channels }
 
   channel_at : (c : ℕ) → find nat_cmp c done_channels ≡ option_map (λ (conn : Connection). channel_after sends c (channel_or_empty (find nat_cmp c fronts))) (find nat_cmp c after)
   channel_at c = found_mapped (λ k (conn : Connection). channel_after sends k (channel_or_empty (find nat_cmp k fronts))) c after
@@ -205,9 +206,9 @@ module _ (types : List ℕ) (a : Account) (s : Sound a) where
   do_by d at is (Whole n) =
       let item = Asked at.conn (take n at.channel.inbox) in
       let stepped = step_with types a.world.machine item in
-      elim (nat_le held_limit (length at.channel.unsent)) as (λ b. After types a (Do d) (cond b (told a.world (said.Held (length at.channel.unsent))) (do_step types n a.world at item))) [
+      elim (nat_le HELD_LIMIT (length at.channel.unsent)) as (λ b. After types a (Do d) (cond b (told a.world (said.Held (length at.channel.unsent))) (do_step types n a.world at item))) [
         | true ↦ still_after types a s (Do d) (said.Held (length at.channel.unsent)) (λ log. refl)
-        | false ↦ do_step_by d n at is (crowded (channels_after stepped (without_front n a.world at)))
+        | false ↦ do_step_by d n at is (crowded (unsent_of (channels_after stepped (without_front n a.world at))))
       ]
 
   out_by : (d max : ℕ) (at : Served) → IsServed a.world d at → (none bad full : Bool) →

@@ -272,12 +272,12 @@ module _ (w w' : World) (item : Item) (sends : List StoreSend) (fits : Fits w) (
 -- THE TURN of an account
 pub turn_after : (types : List ℕ) (a : Account) → Sound a → (e : Event) (say : Said) (item : Item) (guests : List (ℕ × Guest)) (channels : List (ℕ × Channel)) →
     let stepped = step_with types a.world.machine item in
-    let w' : World = record { machine = stepped.0; guests = guests; channels = channels } in
+    let w' : World = record { machine = stepped.0; globals = a.world.globals; guests = guests; channels = channels } in
     let told : Told = record { world = w'; said = say; given = []; taken = []; items = item ∷ [] } in
     ((log : PageLog) → log_change e told log ≡ log) → IsTurn a.world w' item stepped.1 → After types a e told
 turn_after types a s e say item guests channels as_is turn =
     let stepped = step_with types a.world.machine item in
-    let w' : World = record { machine = stepped.0; guests = guests; channels = channels } in
+    let w' : World = record { machine = stepped.0; globals = a.world.globals; guests = guests; channels = channels } in
     let told : Told = record { world = w'; said = say; given = []; taken = []; items = item ∷ [] } in
     let before = a.world.machine.conns in
     let after = stepped.0.conns in

@@ -1,13 +1,13 @@
 -- The law of the world: every run of it serves its guests. Each statement is proved of a function in `src/laws.rt`, for
 -- every list of served message types.
-use Rattle.std.specs.Prelude.{◌≡◌, ℕ, ◌^◌, ◌<◌, ◌==◌, Bool, true, ◌&&◌, List, Some, is_some, option_map, slice_get}
+use Rattle.std.specs.Prelude.{◌≡◌, ℕ, ◌^◌, ◌<◌, ◌==◌, Bool, true, ◌&&◌, List, Some, is_some, slice_get}
 use Rattle.std.specs.List.{AllByRecursion, list_any}
 use Rattle.std.specs.Ordering.{nat_cmp}
 use Rattle.std.specs.FinMap.{find}
 use Rattle.machine_model.specs.Connections.{Connection, Connections, is_ring_of, ring_of, has_ring}
 use Rattle.machine_model.specs.History.{Life, past_at_start, run_with}
 use Rattle.machine_model.specs.Limits.{HasIds}
-use Rattle.world_model.specs.Worlds.{World, Guest, Event, empty_channel, new_world}
+use Rattle.world_model.specs.Worlds.{World, Guest, Event, unsent_of, new_world}
 use Rattle.world_model.specs.Scripts.{DomainLine}
 use Rattle.world_model.specs.Transcripts.{world_after_all, history_of, with_domains}
 use Rattle.world_model.specs.Served.{PageLog, Account, account_of, account_at_start, Serves, AllBalance}
@@ -23,13 +23,13 @@ pub record HasEmptyPage (d : ℕ) (guests : List (ℕ × Guest)) : Type 0 where
 abbrev pub HasOneRingEach : Connections → Type 0
 HasOneRingEach conns = (c d : ℕ) (conn : Connection) → find nat_cmp c conns ≡ Some conn → is_ring_of d conn.spec ≡ true → ring_of d conns ≡ Some c
 
--- nothing is under way: each domain that is connected has an empty page, each connection has an empty channel, and there
--- are no other channels
+-- Each domain that is connected has an empty page, each connection has a channel, and there are no other channels. What a
+-- migration stream brought may be in the channels: bytes that were taken and not answered, and bytes that are unsent.
 pub record IsStart (w : World) : Type 0 where
   pub ids : HasIds w.machine.conns
   pub rings : HasOneRingEach w.machine.conns
   pub pages : (d : ℕ) → has_ring d w.machine.conns ≡ true → HasEmptyPage d w.guests
-  pub channels : (c : ℕ) → find nat_cmp c w.channels ≡ option_map (λ conn. empty_channel) (find nat_cmp c w.machine.conns)
+  pub channels : (c : ℕ) → is_some (find nat_cmp c w.channels) ≡ is_some (find nat_cmp c w.machine.conns)
 
 -- what holds of the account of any events, from any start
 abbrev pub Always : (Account → Type 0) → Type 0
@@ -69,7 +69,7 @@ ConnectedDomainsHaveLogs = Always (λ account. HasLogs account.world.machine.con
 -- THE ACCOUNT is that of the run, whatever the world began as
 pub record IsOfRun (types : List ℕ) (start : World) (events : List Event) (account : Account) : Type 0 where
   pub world : account.world ≡ world_after_all types start events
-  pub past : account.past ≡ run_with types (past_at_start start.machine) (history_of types start events)
+  pub past : account.past ≡ run_with types (past_at_start (unsent_of start.channels) start.machine) (history_of types start events)
   pub machine : account.past.machine ≡ account.world.machine
 
 abbrev pub AccountsAreOfRuns : Type 0

@@ -30,7 +30,7 @@ pub fn accounts_are_of_runs()
     ensures { AccountsAreOfRuns }
 {}
 
-/// The world of a script's head lines has nothing under way.
+/// The world of a script's head lines is a start: each connected domain has an empty page, each connection a channel.
 pub fn scripts_start()
     ensures { ScriptsStart }
 {}

@@ -1,6 +1,5 @@
-use Rattle.std.proofs.Common.{◌≡◌, ◌+◌, ◌-◌, ◌<◌, ◌≤◌, length, drop, sym, ap, ◌∙◌, arith, length-drop}
+use Rattle.std.proofs.Common.{◌≡◌, ◌+◌, ◌-◌, ◌<◌, ◌≤◌, length, drop, sym, ◌∙◌, arith, length-drop}
 use Rattle.std.proofs.lemmas.List.{drop-drop}
-use Rattle.out_queues.specs.Queues.{whole_behind, rest_after, message_length}
 use Rattle.out_queues.proofs.MessageLemmas.{next_begins, message_there, rest_after-past, rest_after-within}
 use Rattle.out_queues.proofs.messages.rest_after.Goals as goal
 

@@ -1,5 +1,5 @@
 use Rattle.std.proofs.Common.{◌≡◌, ◌+◌, ◌-◌, ◌*◌, ◌≤◌, true, drop}
-use Rattle.out_queues.specs.Queues.{whole_behind, rest_after}
+use Rattle.xs_model.specs.Wholes.{whole_behind, rest_after}
 use Rattle.out_queues.proofs.messages.rest_after.Given as goal
 
 -- of the message at `at` so many bytes are left, and the bytes from there on decide

@@ -1,5 +1,5 @@
 use Rattle.std.proofs.Common.{◌≡◌, length}
-use Rattle.out_queues.specs.Queues.{whole_behind}
+use Rattle.xs_model.specs.Wholes.{whole_behind}
 use Rattle.out_queues.proofs.messages.whole_behind.Given as goal
 
 -- what is left decides
