@@ -1,0 +1,9 @@
+pub mod Chunked
+pub mod Halved
+pub mod Laid
+pub mod Marked
+pub mod NamesBelow
+pub mod PastChunks
+pub mod Removed
+pub mod Rising
+pub mod Searched

@@ -1,0 +1,17 @@
+use Rattle.std.proofs.Common.{sym, ◌∙◌, arith, ◌+◌, ◌-◌, ◌/◌}
+use Rattle.path_map.proofs.Chunked.{front_half, back_half}
+use Rattle.path_map.proofs.chunks.chunk_between.Goals as goal
+
+pub halves-preserved-then-begins_behind : goal.halves-preserved-then-begins_behind
+halves-preserved-then-begins_behind g c = record {
+  low = c.halves.invariant.low;
+  high = omega arith;
+  range = front_half c.args.path.now c.args.chunks.now c.halves.from (c.halves.from + (c.halves.to - c.halves.from) / 2) c.halves.to c.index-chunks-middle.result c.halves.invariant.range c.requires.rising c.requires.filled (omega arith) (omega arith) c.index-chunks-middle.is (sym c.begins_behind.ensures ∙ c.if-begins_behind.true);
+}
+
+pub halves-preserved : goal.halves-preserved
+halves-preserved g c = record {
+  low = omega arith;
+  high = c.halves.invariant.high;
+  range = back_half c.args.path.now c.args.chunks.now c.halves.from (c.halves.from + (c.halves.to - c.halves.from) / 2) c.halves.to c.index-chunks-middle.result c.halves.invariant.range c.requires.rising c.requires.filled (omega arith) (omega arith) c.index-chunks-middle.is (sym c.begins_behind.ensures ∙ c.if-begins_behind.false);
+}

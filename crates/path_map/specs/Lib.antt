@@ -1,0 +1,4 @@
+pub mod Chunks
+pub mod Map
+pub mod Marks
+pub mod Places
