@@ -13,10 +13,10 @@ use Rattle.xs_model.proofs.PathLemmas.{path_total, below_is, child-way, child_na
 use Rattle.xs_model.proofs.Maps.{not_both, from_Some}
 use Rattle.xs_model.proofs.OrderLemmas.{stand_together}
 use Rattle.xs_model.proofs.WayLemmas.{present_above}
-use Rattle.node_tree.specs.Marks.{first_below, is_above, is_past, is_past_by, path_behind}
+use Rattle.path_map.specs.Marks.{first_below, is_above, is_past, is_past_by, first_past}
 use Rattle.node_tree.specs.Names.{first_name, names_above}
-use Rattle.node_tree.proofs.Rising.{both, behind-sooner, find-behind}
-use Rattle.node_tree.proofs.Marked.{first, past, past_below, less_below}
+use Rattle.path_map.proofs.Rising.{both, behind-sooner, find-behind}
+use Rattle.path_map.proofs.Marked.{past, past_below, less_below}
 
 -- the name of p's child on the way to a path
 abbrev pub name_to : Path → Option Path → Option Name
@@ -105,27 +105,27 @@ module _ (p : Path) (leaf : Name) where
   skipped e es (Some n) t f =
       ap (λ b. cond b (Some n) (find (is_above leaf) (children es p))) (sym (child_past n) ∙ ap (is_past p leaf) (sym (child_name-is p e.0 n f)) ∙ t)
 
-  pub child_found : (es : Tree) → is_sorted path_cmp es ≡ true → Closed es → find (is_above leaf) (children es p) ≡ name_to p (first p leaf es)
+  pub child_found : (es : Tree) → is_sorted path_cmp es ≡ true → Closed es → find (is_above leaf) (children es p) ≡ name_to p (first_past p leaf es)
   child_found [] s closed = refl
   child_found (e ∷ es) s closed = by (λ c. child_found es (both (below_all path_cmp e.0 es) (is_sorted path_cmp es) s).1 c) (past p leaf e) refl
     where
-      by : (Closed es → find (is_above leaf) (children es p) ≡ name_to p (first p leaf es)) → (b : Bool) → past p leaf e ≡ b → find (is_above leaf) (children (e ∷ es) p) ≡ name_to p (first p leaf (e ∷ es))
+      by : (Closed es → find (is_above leaf) (children es p) ≡ name_to p (first_past p leaf es)) → (b : Bool) → past p leaf e ≡ b → find (is_above leaf) (children (e ∷ es) p) ≡ name_to p (first_past p leaf (e ∷ es))
       by more true t =
           found e es t (both (below_all path_cmp e.0 es) (is_sorted path_cmp es) s).0 closed (names_below p e.0) refl
-          ∙ sym (ap (λ b. name_to p (cond b (Some e.0) (first p leaf es))) t)
+          ∙ sym (ap (λ b. name_to p (cond b (Some e.0) (first_past p leaf es))) t)
       by more false t =
-          skipped e es (child_name p e.0) t refl ∙ more (closed_later e es t closed) ∙ sym (ap (λ b. name_to p (cond b (Some e.0) (first p leaf es))) t)
+          skipped e es (child_name p e.0) t refl ∙ more (closed_later e es t closed) ∙ sym (ap (λ b. name_to p (cond b (Some e.0) (first_past p leaf es))) t)
 
   -- where it is below p, it is the child
-  pub found_is : (es : Tree) → is_sorted path_cmp es ≡ true → Closed es → (q : Path) (n : Name) → first p leaf es ≡ Some q → first_below (names_below p q) ≡ Some n → q ≡ child p n
+  pub found_is : (es : Tree) → is_sorted path_cmp es ≡ true → Closed es → (q : Path) (n : Name) → first_past p leaf es ≡ Some q → first_below (names_below p q) ≡ Some n → q ≡ child p n
   found_is [] s closed q n f h = cc
   found_is (e ∷ es) s closed q n f h = by (λ c g. found_is es (both (below_all path_cmp e.0 es) (is_sorted path_cmp es) s).1 c q n g h) (past p leaf e) refl
     where
-      by : (Closed es → first p leaf es ≡ Some q → q ≡ child p n) → (b : Bool) → past p leaf e ≡ b → q ≡ child p n
+      by : (Closed es → first_past p leaf es ≡ Some q → q ≡ child p n) → (b : Bool) → past p leaf e ≡ b → q ≡ child p n
       by more true t =
-          let here : e.0 ≡ q = from_Some (sym (ap (λ b. cond b (Some e.0) (first p leaf es)) t) ∙ f) in
+          let here : e.0 ≡ q = from_Some (sym (ap (λ b. cond b (Some e.0) (first_past p leaf es)) t) ∙ f) in
           sym here ∙ found_child e es t (both (below_all path_cmp e.0 es) (is_sorted path_cmp es) s).0 closed (names_below p e.0) n refl (ap (λ r. first_below (names_below p r)) here ∙ h)
-      by more false t = more (closed_later e es t closed) (sym (ap (λ b. cond b (Some e.0) (first p leaf es)) t) ∙ f)
+      by more false t = more (closed_later e es t closed) (sym (ap (λ b. cond b (Some e.0) (first_past p leaf es)) t) ∙ f)
 
 -- in a tree
 first_of_filter : (test : Name → Bool) (names : List Name) → find test names ≡ first_name (filter test names)
@@ -142,20 +142,8 @@ module _ (tree : Tree) (p : Path) (leaf : Name) (is : IsTree tree) where
   closed_tree : Closed p leaf tree
   closed_tree n m rest h above = present_above tree is (child p n) (m ∷ rest) (subst (λ q. is_present tree q ≡ true) (sym (child-way p n (m ∷ rest))) h)
 
-  pub next_child : first_name (names_above leaf (children tree p)) ≡ name_to p (first p leaf tree)
+  pub next_child : first_name (names_above leaf (children tree p)) ≡ name_to p (first_past p leaf tree)
   next_child = first_above leaf (children tree p) ∙ child_found p leaf tree is.rising closed_tree
 
-  pub next_is : (q : Path) (n : Name) → first p leaf tree ≡ Some q → first_below (names_below p q) ≡ Some n → q ≡ child p n
+  pub next_is : (q : Path) (n : Name) → first_past p leaf tree ≡ Some q → first_below (names_below p q) ≡ Some n → q ≡ child p n
   next_is = found_is p leaf tree is.rising closed_tree
-
--- with no leaf, the first path behind p
-past-plain : (p q : Path) (o : Option (List Name)) → names_below p q ≡ o → is_past_by [] (is_lt (path_cmp p q)) (first_below o) ≡ is_lt (path_cmp p q)
-past-plain p q None e = refl
-past-plain p q (Some []) e = refl
-past-plain p q (Some (n ∷ ns)) e = sym (ap is_lt (ap (path_cmp p) (below_is p q (n ∷ ns) e) ∙ less_below p n ns))
-
-pub path_behind-is : (tree : Tree) (p : Path) → first p [] tree ≡ path_behind tree p
-path_behind-is [] p = refl
-path_behind-is (e ∷ es) p =
-    ap (λ b. cond b (Some e.0) (first p [] es)) (past-plain p e.0 (names_below p e.0) refl)
-    ∙ ap (cond (is_lt (path_cmp p e.0)) (Some e.0)) (path_behind-is es p)

@@ -1,11 +1,6 @@
 pub mod ChildAbove
-pub mod Chunked
-pub mod Halved
-pub mod Laid
-pub mod Marked
-pub mod NamesBelow
-pub mod PastChunks
-pub mod Removed
-pub mod Rising
-pub mod Searched
+pub mod Entries
+pub mod Mapped
+pub mod Renumbered
 pub mod Shape
+pub mod Stamped

@@ -1,5 +1,5 @@
-pub mod Chunks
 pub mod KeptTree
-pub mod Marks
+pub mod Made
+pub mod MadeProofs
 pub mod Names
-pub mod Places
+pub mod Numbers

@@ -5,7 +5,7 @@ use std::alloc::Global;
 use std::process::Abort;
 use std::test::Fail;
 use xs_base::Bytes;
-use xs_path::Path;
+use xs_path::{Path, Paths};
 use xs_perms::{Perms, read_perm};
 
 /// The paths of a small tree, in an order in which each has its parent.
@@ -52,7 +52,7 @@ fn value_at(alloc: Global, tree: &Tree, text: &[u8]) -> Result<Option<Bytes>, Fa
 #[test]
 fn finds_what_was_set(rt: HostRuntime) -> Result<(), Fail> {
     let alloc = rt.alloc();
-    let tree = small_tree(&rt, alloc)?.copy()?;
+    let tree = small_tree(&rt, alloc)?;
     assert_eq!(rt; value_at(alloc, &tree, b"/")?, Some(Bytes::new(alloc)));
     for text in TEXTS {
         let bytes = text.as_bytes();
@@ -108,6 +108,45 @@ fn children_and_paths_come_in_order(rt: HostRuntime) -> Result<(), Fail> {
             want.map(|path| path.as_bytes()),
             "{text}"
         );
+    }
+    Ok(())
+}
+
+fn number_at(alloc: Global, tree: &Tree, text: &str) -> Result<Option<u64>, Fail> {
+    Ok(tree.generation(&Path::read(alloc, text.as_bytes(), 0)?))
+}
+
+#[test]
+fn changed_paths_are_numbered(rt: HostRuntime) -> Result<(), Fail> {
+    let alloc = rt.alloc();
+    let mut tree = small_tree(&rt, alloc)?;
+    let mut changed = Paths::new(alloc);
+    for text in ["/b", "/b/x", "/c"] {
+        changed.push(Path::read(alloc, text.as_bytes(), 0)?)?;
+    }
+    tree.stamp(&changed);
+    remove(&rt, alloc, &mut tree, b"/b/x")?;
+    for text in ["/b", "/b/x"] {
+        write(&rt, alloc, &mut tree, text.as_bytes())?;
+    }
+    for (text, number) in [
+        ("/", Some(0)),
+        ("/b", Some(1)),
+        ("/b/x", Some(0)),
+        ("/c", None),
+    ] {
+        assert_eq!(rt; number_at(alloc, &tree, text)?, number, "{text}");
+    }
+    assert!(rt; tree.regenerate(&Path::root(alloc)?, 7));
+    assert!(rt; !tree.regenerate(&Path::read(alloc, b"/c", 0)?, 8));
+    tree.stamp(&changed);
+    for (text, number) in [
+        ("/", Some(7)),
+        ("/b", Some(8)),
+        ("/b/x", Some(8)),
+        ("/m", Some(0)),
+    ] {
+        assert_eq!(rt; number_at(alloc, &tree, text)?, number, "{text}");
     }
     Ok(())
 }

@@ -1,17 +1,16 @@
-use Rattle.std.proofs.Common.{◌+◌, ap, subst, ◌∙◌}
+use Rattle.std.proofs.Common.{sym, ap, ◌∙◌}
+use Rattle.std.specs.Option.{option_map}
 use Rattle.xs_model.specs.Trees.{node_at}
 use Rattle.node_tree.specs.KeptTree.{KeptTree}
-use Rattle.node_tree.specs.Chunks.{IsRangeFor}
-use Rattle.node_tree.proofs.Chunked.{sorted_it, find_it}
+use Rattle.node_tree.proofs.Entries.{node_found, node_of}
 use Rattle.node_tree.proofs.TreeView.node.Goals as goal
 
-pub node-requires : goal.node-requires
-node-requires c =
-    let range = subst (λ l. IsRangeFor c.args.path.now l c.chunk_of-at.result (c.chunk_of-at.result + 1)) c.deref.ensures.value c.chunk_of-at.ensures in
-    sorted_it c.args.path.now c.self.inside.chunks.items c.chunk_of-at.result c.index.result.now range c.index.ensures c.self.invariant.tree.rising
+pub returns-in-Some-clause-node : goal.returns-in-Some-clause-node
+returns-in-Some-clause-node c =
+    let p = c.args.path.now in
+    ap (option_map node_of) c.in-Some.ensures.value ∙ sym (node_found p c.self.inside.map.entries) ∙ ap (λ (t : KeptTree). node_at t.nodes p) c.self.view_is
 
-pub returns-clause-node : goal.returns-clause-node
-returns-clause-node c =
-    let range = subst (λ l. IsRangeFor c.args.path.now l c.chunk_of-at.result (c.chunk_of-at.result + 1)) c.deref.ensures.value c.chunk_of-at.ensures in
-    c.node.ensures ∙ find_it c.args.path.now c.self.inside.chunks.items c.chunk_of-at.result c.index.result.now range c.index.ensures
-    ∙ ap (λ (t : KeptTree). node_at t.nodes c.args.path.now) c.self.view_is
+pub returns-in-None-clause-node : goal.returns-in-None-clause-node
+returns-in-None-clause-node c =
+    let p = c.args.path.now in
+    ap (option_map node_of) c.in-None.ensures.value ∙ sym (node_found p c.self.inside.map.entries) ∙ ap (λ (t : KeptTree). node_at t.nodes p) c.self.view_is

@@ -1,43 +1,68 @@
-use Rattle.std.proofs.Common.{◌≡◌, ℕ, List, true, ◌+◌, ◌<◌, ◌≤◌, ◌*◌, ◌-◌, length, set, get_or, [], max, sym, ap, subst, ◌∙◌, arith}
-use Rattle.std.specs.FinMap.{put, is_sorted}
-use Rattle.std.proofs.lemmas.List.{get_or_read}
+use Rattle.std.proofs.Common.{◌≡◌, ℕ, ◌≤◌, true, Some, None, sym, ap, subst, ◌∙◌, arith}
+use Rattle.std.specs.List.{AllByRecursion}
+use Rattle.std.specs.FinMap.{find, put}
+use Rattle.path_map.specs.Map.{Entries}
 use Rattle.xs_model.specs.Paths.{Path, path_cmp}
-use Rattle.xs_model.specs.Trees.{Tree, Node, IsTree}
-use Rattle.node_tree.specs.KeptTree.{KeptTree, has_parent}
-use Rattle.node_tree.specs.Chunks.{half, joined, debt, IsRangeFor}
-use Rattle.node_tree.proofs.Chunked.{sorted_it, put_it}
-use Rattle.node_tree.proofs.Halved.{debt-put, spare_left}
-use Rattle.node_tree.proofs.Laid.{laid_out_set}
-use Rattle.node_tree.proofs.Rising.{length-put-some}
+use Rattle.xs_model.specs.Trees.{Tree, Node, IsTree, has_entry, edited_at}
+use Rattle.xs_model.specs.Generations.{Generations, generation_max, generation_of}
+use Rattle.node_tree.specs.KeptTree.{KeptTree, nodes_of, gens_of, has_parent}
+use Rattle.node_tree.specs.declared.entry.Entry.{Entry}
+use Rattle.node_tree.proofs.Entries.{entry, nodes_put, gens_put, numbers_put, number_there, number_absent, number_small}
 use Rattle.node_tree.proofs.Shape.{IsTree-put}
 use Rattle.node_tree.proofs.TreeView.set.Goals as goal
 
--- an edit of the path's chunk is the edit of the tree
-edited : (p : Path) (x : Node) (cs : List Tree) (i : ℕ) (c d t : Tree) → IsRangeFor p cs i (i + 1) → c ≡ get_or cs i c → d ≡ put path_cmp p x c → joined cs ≡ t → joined (set cs i d) ≡ put path_cmp p x t
-edited p x cs i c d t range is new same =
-    ap (λ (e : Tree). joined (set cs i e)) new ∙ put_it p cs i c range is x ∙ ap (put path_cmp p x) same
+tree_put : (p : Path) (node : Node) (n : ℕ) (es : Entries Entry) → IsTree (nodes_of es) → has_parent (nodes_of es) p ≡ true → has_entry node.perms ≡ true → IsTree (nodes_of (put path_cmp p (entry node n) es))
+tree_put p node n es is parent one = subst IsTree (sym (nodes_put p node n es)) (IsTree-put (nodes_of es) p node is parent one)
 
-pub set-requires-clause-rising : goal.set-requires-clause-rising
-set-requires-clause-rising c =
-    sorted_it c.args.path c.make_room-at.new.chunks.items c.make_room-at.result c.index_mut.result.now c.make_room-at.ensures.range c.index_mut.ensures.value (subst (λ l. is_sorted path_cmp l ≡ true) (sym c.make_room-at.ensures.joined) c.self.invariant.tree.rising)
+gens_set : (p : Path) (node : Node) (n : ℕ) (es : Entries Entry) → generation_of (gens_of es) p ≡ n → gens_of (put path_cmp p (entry node n) es) ≡ put path_cmp p (generation_of (gens_of es) p) (gens_of es)
+gens_set p node n es h = gens_put p node n es ∙ ap (λ m. put path_cmp p m (gens_of es)) (sym h)
+
+abbrev set_gens : Path → KeptTree → Generations
+set_gens p t = put path_cmp p (generation_of t.gens p) t.gens
 
 pub invariant_of-self : goal.invariant_of-self
-invariant_of-self c = record {
-  tree = subst IsTree (sym (edited c.args.path c.args.node c.make_room-at.new.chunks.items c.make_room-at.result c.index_mut.result.now c.set.new.self (joined c.self.inside.chunks.items) c.make_room-at.ensures.range c.index_mut.ensures.value c.set.ensures c.make_room-at.ensures.joined)) (IsTree-put (joined c.self.inside.chunks.items) c.args.path c.args.node c.self.invariant.tree (subst (λ (t : KeptTree). has_parent t.nodes c.args.path ≡ true) (sym c.self.view_is) c.requires.parent) c.requires.entry);
-  laid_out = laid_out_set c.make_room-at.new.chunks.items c.make_room-at.new.spare.items c.make_room-at.new.chunks.cap c.make_room-at.result c.set.new.self (subst (λ (d : Tree). 0 < length d) (sym c.set.ensures) (length-put-some path_cmp c.args.path c.args.node c.index_mut.result.now)) c.make_room-at.ensures.laid_out;
-}
+invariant_of-self c =
+    let es = c.self.inside.map.entries in
+    let parent = subst (λ (t : KeptTree). has_parent t.nodes c.args.path ≡ true) (sym c.self.view_is) c.requires.parent in
+    record {
+      tree = tree_put c.args.path c.args.node c.in-Some.entry.now.generation es c.self.invariant.tree parent c.requires.entry;
+      numbers = numbers_put c.args.path c.args.node c.in-Some.entry.now.generation es (number_small c.args.path es c.in-Some.entry.now c.self.invariant.numbers c.in-Some.ensures.value) c.self.invariant.numbers;
+      counter = c.self.invariant.counter;
+    }
+
+pub returns-in-Some-clause-nodes : goal.returns-in-Some-clause-nodes
+returns-in-Some-clause-nodes c =
+    nodes_put c.args.path c.args.node c.in-Some.entry.now.generation c.self.inside.map.entries ∙ ap (λ (t : KeptTree). edited_at t.nodes c.args.path (Some c.args.node)) c.self.view_is
+
+pub returns-in-Some-clause-made : goal.returns-in-Some-clause-made
+returns-in-Some-clause-made c =
+    let es = c.self.inside.map.entries in
+    let n = c.in-Some.entry.now.generation in
+    record {
+      nodes = nodes_put c.args.path c.args.node n es ∙ ap (λ (t : KeptTree). edited_at t.nodes c.args.path (Some c.args.node)) c.self.view_is;
+      gens = gens_set c.args.path c.args.node n es (number_there c.args.path es c.in-Some.entry.now c.in-Some.ensures.value) ∙ ap (set_gens c.args.path) c.self.view_is;
+      counter = ap (λ (t : KeptTree). t.counter) c.self.view_is;
+    }
+
+pub invariant_of-self-2 : goal.invariant_of-self-2
+invariant_of-self-2 c =
+    let es = c.self.inside.map.entries in
+    let parent = subst (λ (t : KeptTree). has_parent t.nodes c.args.path ≡ true) (sym c.self.view_is) c.requires.parent in
+    record {
+      tree = subst (λ (t : Entries Entry). IsTree (nodes_of t)) (sym c.put.ensures.entries) (tree_put c.args.path c.args.node 0 es c.self.invariant.tree parent c.requires.entry);
+      numbers = subst (λ (t : Entries Entry). AllByRecursion (λ e. e.1 ≤ generation_max) (gens_of t)) (sym c.put.ensures.entries) (numbers_put c.args.path c.args.node 0 es (omega arith) c.self.invariant.numbers);
+      counter = c.self.invariant.counter;
+    }
 
 pub returns-clause-nodes : goal.returns-clause-nodes
 returns-clause-nodes c =
-    edited c.args.path c.args.node c.make_room-at.new.chunks.items c.make_room-at.result c.index_mut.result.now c.set.new.self (joined c.self.inside.chunks.items) c.make_room-at.ensures.range c.index_mut.ensures.value c.set.ensures c.make_room-at.ensures.joined
-    ∙ ap (λ (t : KeptTree). put path_cmp c.args.path c.args.node t.nodes) c.self.view_is
+    ap nodes_of c.put.ensures.entries ∙ nodes_put c.args.path c.args.node 0 c.self.inside.map.entries ∙ ap (λ (t : KeptTree). edited_at t.nodes c.args.path (Some c.args.node)) c.self.view_is
 
-pub returns-clause-spare : goal.returns-clause-spare
-returns-clause-spare c =
-    let cs = c.make_room-at.new.chunks.items in
-    let i = c.make_room-at.result in
-    let inside : i < length cs = omega (arith, c.make_room-at.ensures.range.within) in
-    let own = get_or_read cs i c.index_mut.result.now inside c.index_mut.ensures.value [] in
-    let more = subst (λ (d : Tree). debt (set cs i d) ≤ debt cs + 1) (sym c.set.ensures) (debt-put cs i inside c.args.path c.args.node c.index_mut.result.now own) in
-    subst (λ n. n ≤ max c.make_room-at.new.spare.len (half * c.make_room-at.new.spare.len - debt (set cs i c.set.new.self)) + 1) (ap (λ (t : KeptTree). t.spare) c.self.view_is)
-    (spare_left c.self.inside.spare.len c.make_room-at.new.spare.len (debt c.self.inside.chunks.items) (debt cs) (debt (set cs i c.set.new.self)) c.make_room-at.ensures.spare c.make_room-at.ensures.debt more)
+pub returns-clause-made : goal.returns-clause-made
+returns-clause-made c =
+    let es = c.self.inside.map.entries in
+    record {
+      nodes = ap nodes_of c.put.ensures.entries ∙ nodes_put c.args.path c.args.node 0 es ∙ ap (λ (t : KeptTree). edited_at t.nodes c.args.path (Some c.args.node)) c.self.view_is;
+      gens = ap gens_of c.put.ensures.entries ∙ gens_set c.args.path c.args.node 0 es (number_absent c.args.path es c.in_default.ensures.value) ∙ ap (set_gens c.args.path) c.self.view_is;
+      counter = ap (λ (t : KeptTree). t.counter) c.self.view_is;
+    }

@@ -1,4 +1,4 @@
-use Rattle.node_tree.proofs.Removed.{IsTree-without}
+use Rattle.node_tree.proofs.Shape.{IsTree-without}
 use Rattle.node_tree.proofs.laws.remove_keeps_tree.Goals as goal
 
 pub returns : goal.returns
