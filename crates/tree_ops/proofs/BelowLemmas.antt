@@ -1,5 +1,5 @@
 -- The children of a path, and the paths at and below one, as members.
-use Rattle.std.specs.Prelude.{◌≡◌, ◌⊎◌, Bool, true, false, cond, ◌&&◌, ◌||◌, List, [], ◌∷◌, ◌++◌, Option, Some, None, is_some}
+use Rattle.std.specs.Prelude.{◌≡◌, ◌⊎◌, Bool, true, false, cond, ◌||◌, List, [], ◌∷◌, Option, Some, None, is_some}
 use Rattle.std.specs.List.{AllByRecursion, cons_option}
 use Rattle.std.specs.Ordering.{is_lt}
 use Rattle.std.specs.FinMap.{is_sorted}
@@ -7,14 +7,13 @@ use Rattle.std.specs.FinMap.Entries.{below_all}
 use Rattle.std.proofs.Common.{sym, refl, ap, subst, ◌∙◌, inl, inr}
 use Rattle.std.proofs.lemmas.Bool.{and_parts, and_from}
 use Rattle.xs_model.specs.Paths.{Name, Path, name_cmp, path_cmp, same_path, has_path, child, is_below}
-use Rattle.xs_model.specs.Trees.{Node, Tree, IsTree, is_present, node_at, child_name, children, if_below, all_below}
+use Rattle.xs_model.specs.Trees.{Node, Tree, IsTree, is_present, node_at, child_name, children, all_below}
 use Rattle.xs_model.proofs.Maps.{not_both, from_Some}
-use Rattle.xs_model.proofs.PathLemmas.{name_total, path_total, same_path-is, same_path-itself, child_name-is, child_name-child}
+use Rattle.xs_model.proofs.PathLemmas.{name_total, same_path-is, same_path-itself, child_name-is, child_name-child}
 use Rattle.xs_model.proofs.TreeLemmas.{has_path-all_below}
 use Rattle.node_tree.specs.Names.{names_above, first_name}
 use Rattle.tree_ops.proofs.AboveLemmas.{is_above}
 use Rattle.tree_ops.specs.Rising.{Rises}
-use Rattle.tree_ops.proofs.RisingLemmas.{no_item, filter_first}
 use Rattle.tree_ops.proofs.MemberLemmas.{Has, kept_has, least_kept, has_kept}
 use Rattle.tree_ops.proofs.ChildLemmas.{children_rise, above_is, split_first}
 

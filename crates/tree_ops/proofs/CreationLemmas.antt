@@ -1,5 +1,5 @@
 -- Creating nodes on a way down, one after the other.
-use Rattle.std.proofs.Common.{◌≡◌, ℕ, ◌+◌, ◌<◌, List, [], ◌∷◌, ◌++◌, length, get_or, drop, map, refl, sym, ap, ◌∙◌, append_assoc, Some}
+use Rattle.std.proofs.Common.{◌≡◌, ℕ, ◌+◌, ◌<◌, List, [], ◌∷◌, ◌++◌, length, get_or, drop, refl, sym, ap, ◌∙◌, append_assoc, Some}
 use Rattle.std.proofs.lemmas.List.{drop_more}
 use Rattle.xs_model.specs.declared.perm.Perm.{Perm}
 use Rattle.xs_model.specs.Paths.{Path}

@@ -3,6 +3,7 @@ pub mod RisingLemmas
 pub mod ChildLemmas
 pub mod SightLemmas
 pub mod NameLemmas
+pub mod PartLemmas
 pub mod CreationLemmas
 pub mod WalkLemmas
 pub mod RemovalLemmas

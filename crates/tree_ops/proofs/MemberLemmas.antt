@@ -4,11 +4,10 @@ use Rattle.std.specs.List.{AllByRecursion}
 use Rattle.std.specs.Cmp.{IsTotalOrder}
 use Rattle.std.specs.Ordering.{is_lt, ordering_reverse}
 use Rattle.std.specs.declared.cmp.Ordering.{Ordering}
-use Rattle.std.specs.declared.cmp.Ordering.TheVariants.{Less, Equal, Greater}
 use Rattle.std.proofs.Common.{sym, refl, ap, subst, ◌∙◌, inl, inr}
 use Rattle.xs_model.proofs.Maps.{not_both}
 use Rattle.tree_ops.specs.Rising.{Rises, behind}
-use Rattle.tree_ops.proofs.RisingLemmas.{less_of, no_item, same_head, not_itself, further, behind_first, behind_kept, Upward}
+use Rattle.tree_ops.proofs.RisingLemmas.{less_of, not_itself, behind_first, behind_kept, Upward}
 
 abbrev pub Has : {K : Type 0} → K → List K → Type 0
 Has x [] = ⊥

@@ -1,8 +1,7 @@
 -- The strings of children's names, one after the other.
-use Rattle.std.specs.Prelude.{◌≡◌, ◌+◌, ◌<◌, true, List, [], ◌∷◌, ◌++◌, length, ℕ, Some, Ok}
-use Rattle.std.specs.List.{AllByRecursion}
-use Rattle.std.proofs.Common.{sym, refl, ap, subst, ◌∙◌, arith, append_assoc}
-use Rattle.xs_model.specs.Laws.{IsName, HasNames}
+use Rattle.std.specs.Prelude.{◌≡◌, ◌+◌, ◌<◌, List, [], ◌∷◌, ◌++◌, length, ℕ, Some, Ok}
+use Rattle.std.proofs.Common.{sym, ap, ◌∙◌, arith, append_assoc}
+use Rattle.xs_model.specs.Laws.{HasNames}
 use Rattle.xs_model.specs.Paths.{Name, Path, child, text, path_of}
 use Rattle.xs_model.specs.Trees.{Tree, IsTree, children}
 use Rattle.xs_model.specs.Messages.{string, strings}

@@ -1,5 +1,5 @@
 -- Answers of RM, and texts of children.
-use Rattle.std.proofs.Common.{◌≡◌, ◌≢◌, ℕ, List, [], ◌∷◌, ◌++◌, length, refl, sym, ap, ◌∙◌, arith, append_assoc, append-nil, Result, Ok}
+use Rattle.std.proofs.Common.{◌≡◌, ◌≢◌, List, [], ◌∷◌, ◌++◌, length, refl, sym, ap, ◌∙◌, arith, append_assoc, append-nil, Result, Ok}
 use Rattle.xs_model.specs.declared.perm.Rights.{Rights}
 use Rattle.xs_model.specs.Paths.{Path, Name, child, text, names_text}
 use Rattle.xs_model.specs.Commands.{rm_answer, rm_absent}

@@ -1,6 +1,5 @@
 -- Removing paths from the last to the first.
-use Rattle.std.specs.Prelude.{◌≡◌, Bool, true, false, cond, not, List, [], ◌∷◌, ◌++◌, Some, None, Option, is_some}
-use Rattle.std.specs.List.{AllByRecursion}
+use Rattle.std.specs.Prelude.{◌≡◌, Bool, true, false, cond, not, List, [], ◌∷◌, ◌++◌, None, Option, is_some}
 use Rattle.std.specs.Ordering.{is_lt}
 use Rattle.std.specs.FinMap.Entries.{where_key}
 use Rattle.std.proofs.Common.{sym, refl, ap, subst, ◌∙◌, append_assoc, append-nil, inl, inr}

@@ -1,5 +1,5 @@
 -- What one command sees, answers and edits.
-use Rattle.std.specs.Prelude.{◌≡◌, ℕ, ◌≤◌, Bool, true, false, cond, not, ◌||◌, ◌&&◌, List, [], ◌∷◌, ◌++◌, length, drop, get_or, Option, Some, None, Result, Ok, Err, is_some, IfOk}
+use Rattle.std.specs.Prelude.{◌≡◌, ℕ, ◌≤◌, Bool, true, false, cond, not, ◌||◌, ◌&&◌, List, [], ◌∷◌, ◌++◌, length, nat_lt, drop, get_or, Option, Some, None, Result, Ok, Err, is_some, IfOk}
 use Rattle.std.proofs.Common.{sym, refl, ap, subst, ◌∙◌, append-nil, take}
 use Rattle.std.specs.List.{list_all}
 use Rattle.std.proofs.lemmas.List.{take-append-drop}
@@ -9,11 +9,11 @@ use Rattle.xs_model.specs.declared.message.WireErr.{WireErr}
 use Rattle.xs_model.specs.declared.message.WireErr.TheVariants.{Einval, Eacces}
 use Rattle.xs_model.specs.Paths.{Path, Name, child, way_down}
 use Rattle.xs_model.specs.Perms.{Caller, rights_of, created_perms}
-use Rattle.xs_model.specs.Requests.{Operation, Directory, Read, GetPerms, Write, Mkdir, Rm, SetPerms, is_root}
+use Rattle.xs_model.specs.Requests.{Operation, Directory, Read, GetPerms, Write, Mkdir, Rm, SetPerms, DirectoryPart, is_root}
 use Rattle.xs_model.specs.Trees.{Node, Tree, IsTree, node_at, is_present, has_entry, all_below, Edit, edited_at, edit_paths}
-use Rattle.xs_model.specs.Commands.{absent_of, nearest_of, Sight, sight_of, node_or_empty, Answer, creation, removals, refusal, success, looked_up, absent_refusal, written_by, write_edits, mkdir_edits, rm_answer, rm_absent, gives_away, set_perms_answer, set_perms_present, permitted, is_out_of_form, answer}
+use Rattle.xs_model.specs.Commands.{absent_of, nearest_of, Sight, sight_of, node_or_empty, Answer, creation, removals, refusal, success, looked_up, part_answer, part_payload, shown, absent_refusal, write_edits, rm_answer, rm_absent, gives_away, set_perms_answer, permitted, is_out_of_form, answer}
 use Rattle.xs_model.proofs.Maps.{not_both}
-use Rattle.xs_model.proofs.WayLemmas.{Looked, look_down, way_below, parents-child, present_above}
+use Rattle.xs_model.proofs.WayLemmas.{look_down, way_below, parents-child, present_above}
 use Rattle.xs_model.proofs.AnswerLemmas.{at_nearest}
 use Rattle.xs_model.proofs.TreeLemmas.{has_entries, present_now, edit_paths-removals}
 use Rattle.node_tree.specs.KeptTree.{has_parent}
@@ -88,6 +88,15 @@ looked_fits : (tree : Tree) (rights : Rights) (payload : List ℕ) (absent : Lis
 looked_fits tree rights payload [] = either_fits tree rights.can_read _ _ tt tt
 looked_fits tree rights payload (p ∷ ps) = absent_fits tree rights
 
+shown_fits : (tree : Tree) (rights : Rights) (payload : List ℕ) → FitsEdits tree (shown rights payload).edits
+shown_fits tree rights payload = either_fits tree rights.can_read _ _ tt tt
+
+part_fits : (tree : Tree) (rights : Rights) (number offset : ℕ) (list : List ℕ) (absent : List Path) → FitsEdits tree (part_answer rights number offset list absent).edits
+part_fits tree rights number offset list [] =
+    either_fits tree (not rights.can_read) (refusal Eacces) _ tt
+    (either_fits tree (nat_lt (length list) offset) (refusal Einval) (shown rights (part_payload number offset list)) tt (shown_fits tree rights (part_payload number offset list)))
+part_fits tree rights number offset list (p ∷ ps) = absent_fits tree rights
+
 parent_there : (tree : Tree) (p : Path) (n : Name) → is_present tree p ≡ true → has_parent tree (child p n) ≡ true
 parent_there tree p n h = ap (list_all (is_present tree)) (parents-child p n) ∙ ap (λ b. b && true) h
 
@@ -112,9 +121,9 @@ not_not : (b : Bool) → not b ≡ false → b ≡ true
 not_not true h = refl
 not_not false h = not_both refl h
 
-module _ (tree : Tree) (is : IsTree tree) (caller : Caller) (path near : Path) (node : Node) (names : List Name) (there : is_present tree near ≡ true) (entry : has_entry node.perms ≡ true) where
+module _ (tree : Tree) (is : IsTree tree) (caller : Caller) (path near : Path) (node : Node) (names : List Name) (number : ℕ) (there : is_present tree near ≡ true) (entry : has_entry node.perms ≡ true) where
   abbrev sight : List Path → Sight
-  sight absent = record { nearest = near; node = node; absent = absent; names = names }
+  sight absent = record { nearest = near; node = node; absent = absent; names = names; number = number }
 
   one_fits : (value : List ℕ) (perms : List Perm) → path ≡ near → has_entry perms ≡ true → FitsEdits tree ((path, Some (record { value = value; perms = perms })) ∷ [])
   one_fits value perms same h = ((present_parent tree is path (ap (is_present tree) same ∙ there), h), tt)
@@ -149,21 +158,22 @@ module _ (tree : Tree) (is : IsTree tree) (caller : Caller) (path near : Path) (
   permitted_fits edits Mkdir rights rest way form e =
       fits_by_sets tree edits _ e (either_fits tree rights.can_write _ _ (creation_fits tree near rest (created_perms caller.domid node.perms) [] (created_entry caller.domid node.perms entry) there) tt)
   permitted_fits edits Rm rights rest way form e = rm_fits edits rights rest form e
+  permitted_fits edits (DirectoryPart offset) rights rest way form e = fits_by_sets tree edits _ e (part_fits tree rights number offset _ (way_below near rest))
   permitted_fits edits (SetPerms perms) rights rest way form e = fits_by_sets tree edits _ e (set_perms_fits rights perms rest way (not_not (has_entry perms) form))
 
 there_entry : (tree : Tree) → IsTree tree → (p : Path) (found : Option Node) → node_at tree p ≡ found → is_some found ≡ true → has_entry (node_or_empty found).perms ≡ true
 there_entry tree is p None e h = not_both h refl
 there_entry tree is p (Some node) e h = has_entries tree is p node e
 
-pub answer_fits : (tree : Tree) → IsTree tree → (edits : Edits) (operation : Operation) (caller : Caller) (path : Path) → is_out_of_form operation path ≡ false
-    → edits_of edits ≡ (answer operation caller (sight_of operation tree path) path (all_below tree path)).edits → Fits tree edits
-answer_fits tree is edits operation caller path form e =
+pub answer_fits : (tree : Tree) → IsTree tree → (edits : Edits) (operation : Operation) (caller : Caller) (path : Path) (number : ℕ) → is_out_of_form operation path ≡ false
+    → edits_of edits ≡ (answer operation caller (sight_of operation number tree path) path (all_below tree path)).edits → Fits tree edits
+answer_fits tree is edits operation caller path number form e =
     let looked = look_down tree is path in
     let near = nearest_of tree [] (way_down [] path) in
-    let sight = sight_of operation tree path in
-    permitted_fits tree is caller path near sight.node sight.names looked.present (there_entry tree is near (node_at tree near) refl looked.present) edits operation (rights_of caller sight.node.perms) looked.rest looked.to form
+    let sight = sight_of operation number tree path in
+    permitted_fits tree is caller path near sight.node sight.names number looked.present (there_entry tree is near (node_at tree near) refl looked.present) edits operation (rights_of caller sight.node.perms) looked.rest looked.to form
     (e ∙ ap (λ b. (cond b (refusal Einval) (permitted operation caller (rights_of caller sight.node.perms) sight path (all_below tree path))).edits) form
-    ∙ ap (λ absent. (permitted operation caller (rights_of caller sight.node.perms) (record { nearest = near; node = sight.node; absent = absent; names = sight.names }) path (all_below tree path)).edits) looked.missed)
+    ∙ ap (λ absent. (permitted operation caller (rights_of caller sight.node.perms) (record { nearest = near; node = sight.node; absent = absent; names = sight.names; number = number }) path (all_below tree path)).edits) looked.missed)
 
 -- REPLIES
 pub short_if : (reply : Result (List ℕ) WireErr) → ((payload : List ℕ) → reply ≡ Ok payload → length payload ≤ 4096) → IfOk reply (λ payload. length payload ≤ 4096)

@@ -1,9 +1,9 @@
 -- What a look down to a path finds.
-use Rattle.std.proofs.Common.{◌≡◌, ℕ, zero, suc, arith, ◌+◌, ◌<◌, ◌≤◌, true, false, cond, List, [], ◌∷◌, ◌++◌, length, get_or, take, drop, refl, sym, ap, subst, ◌∙◌, inl, inr, Option, Some, None, is_some}
+use Rattle.std.proofs.Common.{◌≡◌, ℕ, zero, suc, arith, ◌+◌, ◌<◌, Bool, true, false, cond, List, [], ◌∷◌, ◌++◌, length, get_or, take, drop, reverse, refl, sym, ap, subst, ◌∙◌, inl, inr}
 use Rattle.std.proofs.lemmas.Bool.{cases_lt}
-use Rattle.std.proofs.lemmas.List.{append-nil, append_assoc, take_all, take_more, drop_more, take-append-drop, length-drop}
-use Rattle.xs_model.specs.Paths.{Path, Name, child, way_down}
-use Rattle.xs_model.specs.Trees.{Node, Tree, IsTree, node_at, is_present}
+use Rattle.std.proofs.lemmas.List.{append-nil, take_all, take_more, drop_more, take-append-drop, length-drop, length-take-le, take-take, reverse-append}
+use Rattle.xs_model.specs.Paths.{Path, Name, child, parents, way_down}
+use Rattle.xs_model.specs.Trees.{Tree, IsTree, is_present}
 use Rattle.xs_model.specs.Commands.{absent_of, nearest_of}
 use Rattle.xs_model.proofs.Maps.{not_both}
 use Rattle.xs_model.proofs.WayLemmas.{way_below, way_down-is, present_above}
@@ -82,14 +82,33 @@ way_end path =
     drop_all [] = refl
     drop_all (n ∷ ns) = drop_all ns
 
--- the paths so far, and the way on from a depth
-pub record IsWay (path : Path) (names at : ℕ) (way : List Path) : Type 0 where
-  pub rest : way ++ way_down (take at path) (drop at path) ≡ way_down (take names path) (drop names path)
+-- a present path is the way alone
+pub alone_seen : (tree : Tree) → IsTree tree → (path : Path) → is_present tree path ≡ true → touched tree path ≡ path ∷ []
+alone_seen tree is path there =
+    let near : IsNearest tree path (length path) = record {
+      within = omega arith;
+      found = ap (is_present tree) (take_all (length path) path (omega arith)) ∙ there;
+      below = λ h. absurd (omega (arith, h));
+    } in
+    way_seen tree is path (length path) near ∙ way_end path
 
-pub way_more : (path : Path) (names at : ℕ) (way : List Path) → at < length path → IsWay path names at way → IsWay path names (at + 1) (way ++ take at path ∷ [])
-way_more path names at way h so_far = record {
-  rest = append_assoc way (take at path ∷ []) (way_down (take (at + 1) path) (drop (at + 1) path)) ∙ ap (λ ps. way ++ ps) (sym (way_step path at h)) ∙ so_far.rest;
-}
+-- one name further up
+up_parent : (path : Path) (k : ℕ) → k < length path → parents (take (suc k) path) ≡ take k path ∷ []
+up_parent [] k h = absurd (omega (arith, h))
+up_parent (n ∷ ns) k h =
+    ap (λ m. take m (n ∷ take k ns) ∷ []) (length-take-le k ns (omega (arith, h)))
+    ∙ ap (λ p. p ∷ []) (take-take k (suc k) (n ∷ ns) (omega arith))
 
-pub way_all : (path : Path) (names : ℕ) (way : List Path) → IsWay path names (length path) way → way ++ path ∷ [] ≡ way_down (take names path) (drop names path)
-way_all path names way so_far = ap (λ ps. way ++ ps) (sym (way_end path)) ∙ so_far.rest
+one_path : (popped : Bool) (p q : Path) → cond popped (p ∷ []) [] ≡ q ∷ [] → p ≡ q
+one_path true p q h = cc
+one_path false p q h = cc
+
+pub up_step : (path : Path) (at k : ℕ) (up new : Path) (ups : List Path) (popped : Bool) → at ≡ suc k → k < length path → up ≡ take at path
+    → up ∷ reverse ups ≡ way_down (take at path) (drop at path) → parents up ≡ cond popped (new ∷ []) []
+    → (new ≡ take k path) × (new ∷ reverse (ups ++ up ∷ []) ≡ way_down (take k path) (drop k path))
+up_step path at k up new ups popped e h here way above =
+    let next : new ≡ take k path = one_path popped new (take k path) (sym above ∙ ap parents (here ∙ ap (λ m. take m path) e) ∙ up_parent path k h) in
+    let same : at ≡ k + 1 = omega (arith, e) in
+    let rest : reverse (ups ++ up ∷ []) ≡ way_down (take (k + 1) path) (drop (k + 1) path) =
+    reverse-append ups (up ∷ []) ∙ way ∙ ap (λ m. way_down (take m path) (drop m path)) same in
+    (next, (λ i. next i ∷ rest i) ∙ sym (way_step path k h))

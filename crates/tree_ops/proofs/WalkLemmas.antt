@@ -1,10 +1,10 @@
 -- The walk over the paths at and below a path.
-use Rattle.std.specs.Prelude.{◌≡◌, ◌<◌, ◌+◌, Bool, true, false, cond, List, [], ◌∷◌, ◌++◌, length, Option, Some, None}
+use Rattle.std.specs.Prelude.{◌≡◌, ◌<◌, Bool, true, false, cond, List, [], ◌∷◌, ◌++◌, length, Some, None}
 use Rattle.std.specs.Cmp.{tied_itself}
 use Rattle.std.specs.Ordering.{is_lt, is_le, ordering_then, ordering_reverse}
 use Rattle.std.specs.declared.cmp.Ordering.{Ordering}
 use Rattle.std.specs.declared.cmp.Ordering.TheVariants.{Less, Equal, Greater}
-use Rattle.std.proofs.Common.{sym, refl, ap, subst, ◌∙◌, arith, append_assoc, append-nil, inl, inr}
+use Rattle.std.proofs.Common.{sym, refl, ap, subst, ◌∙◌, arith, append_assoc, append-nil}
 use Rattle.xs_model.specs.Paths.{Path, Name, name_cmp, path_cmp, same_path, child, is_below, parents}
 use Rattle.xs_model.specs.Trees.{Tree, IsTree, is_present, all_below}
 use Rattle.xs_model.proofs.Maps.{not_both}
@@ -13,10 +13,10 @@ use Rattle.xs_model.proofs.OrderLemmas.{stand_together, stand_before}
 use Rattle.xs_model.proofs.WayLemmas.{present_above, parents-child}
 use Rattle.xs_path.specs.Texts.{leaf_of}
 use Rattle.tree_ops.proofs.AboveLemmas.{is_above}
-use Rattle.tree_ops.specs.Rising.{Rises, behind}
-use Rattle.tree_ops.specs.Walks.{IsLater, IsNext}
+use Rattle.tree_ops.specs.Rising.{behind}
+use Rattle.tree_ops.specs.Walks.{IsNext}
 use Rattle.tree_ops.proofs.RisingLemmas.{less_of, no_item, same_head, not_itself, further}
-use Rattle.tree_ops.proofs.MemberLemmas.{Has, first_is, next_is, none_kept}
+use Rattle.tree_ops.proofs.MemberLemmas.{first_is, next_is, none_kept}
 use Rattle.tree_ops.proofs.BelowLemmas.{IsChild, has_below, below_has, below_rise}
 
 -- ORDER below a path

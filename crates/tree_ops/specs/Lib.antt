@@ -4,3 +4,4 @@ pub mod Ways
 pub mod Rising
 pub mod Fits
 pub mod Walks
+pub mod Places

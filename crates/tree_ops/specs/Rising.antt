@@ -1,5 +1,5 @@
 -- Lists in strictly rising order. This project's own.
-use Rattle.std.specs.Prelude.{◌≡◌, Bool, true, List, [], ◌∷◌, filter}
+use Rattle.std.specs.Prelude.{◌≡◌, true, List, [], ◌∷◌, filter}
 use Rattle.std.specs.List.{AllByRecursion}
 use Rattle.std.specs.Ordering.{is_lt}
 use Rattle.std.specs.declared.cmp.Ordering.{Ordering}

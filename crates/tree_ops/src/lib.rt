@@ -8,6 +8,7 @@ mod commands;
 mod did;
 mod edits;
 mod look;
+mod parts;
 mod reading;
 mod removing;
 #[cfg(test)]

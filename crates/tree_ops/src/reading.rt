@@ -4,8 +4,8 @@ ghost use Rattle.std.specs.Prelude.{◌≡◌, ◌++◌, ℕ, List, IfOk, OnOk, 
 ghost use Rattle.xs_model.specs.Messages.{strings, string};
 ghost use Rattle.xs_model.specs.Perms.{perm_text};
 ghost use Rattle.xs_model.specs.Trees.{children};
-ghost use Rattle.xs_model.specs.Commands.{looked_up, sized};
-ghost use Rattle.tree_ops.specs.Answers.{answer_of, look_answer};
+ghost use Rattle.xs_model.specs.Commands.{looked_up, part_answer, sized};
+ghost use Rattle.tree_ops.specs.Answers.{answer_of, look_answer, part_given};
 
 use crate::answer::{Answer, refusal, shown};
 use node_tree::{Node, View};
@@ -63,8 +63,9 @@ pub fn directory<V: View>(
 
 /// What refuses data of a node, if anything: whoever may not read the nearest node does not learn that the path is
 /// absent.
-fn look_fault(rights: Rights, absent: &[Path]) -> Option<WireErr>
-    ensures { (payload : List ℕ) → looked_up rights payload absent.now ≡ look_answer result payload }
+pub fn look_fault(rights: Rights, absent: &[Path]) -> Option<WireErr>
+    ensures data { (payload : List ℕ) → looked_up rights payload absent.now ≡ look_answer result payload }
+    ensures part { (number offset : ℕ) (list : List ℕ) → part_answer rights number offset list absent.now ≡ part_given result number offset list }
 {
     if !rights.can_read {
         Some(WireErr::Eacces)
@@ -105,7 +106,7 @@ fn names_payload<V: View>(alloc: Global, view: &V, path: &Path) -> Result<Bytes,
 }
 
 /// Appends bytes as a string.
-fn push_string(payload: &mut Bytes, bytes: &[u8]) -> Result<(), NoMemory>
+pub fn push_string(payload: &mut Bytes, bytes: &[u8]) -> Result<(), NoMemory>
     ensures { OnOk result (payload.new ≡ payload.old ++ string bytes.now) }
 {
     payload.push(bytes)?;

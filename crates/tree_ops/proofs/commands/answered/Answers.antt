@@ -1,4 +1,4 @@
-use Rattle.std.proofs.Common.{◌≡◌, sym, ap, ◌∙◌}
+use Rattle.std.proofs.Common.{sym, ap, ◌∙◌}
 use Rattle.xs_model.specs.Trees.{Node, has_entry}
 use Rattle.xs_model.proofs.TreeLemmas.{has_entries}
 use Rattle.tree_ops.proofs.RunLemmas.{near_present, path_present}

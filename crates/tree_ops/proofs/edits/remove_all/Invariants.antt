@@ -1,7 +1,4 @@
-use Rattle.std.proofs.Common.{◌≡◌, ◌≤◌, ◌++◌, List, vec_len}
-use Rattle.xs_model.specs.Paths.{Path}
-use Rattle.xs_model.specs.Trees.{edited}
-use Rattle.xs_model.specs.Commands.{removals}
+use Rattle.std.proofs.Common.{◌≤◌, vec_len}
 use Rattle.tree_ops.specs.Fits.{IsRemoving}
 use Rattle.tree_ops.proofs.edits.remove_all.Given as goal
 

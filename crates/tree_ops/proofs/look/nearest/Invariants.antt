@@ -1,13 +1,15 @@
-use Rattle.std.proofs.Common.{◌≡◌, ◌+◌, ◌<◌, ◌≤◌, false, length, take}
+use Rattle.std.proofs.Common.{◌≡◌, ◌+◌, ◌-◌, ◌<◌, ◌≤◌, true, false, length, take}
 use Rattle.xs_model.specs.Trees.{is_present}
 use Rattle.tree_ops.proofs.look.nearest.Given as goal
 
--- what is below is absent
-abbrev pub invariant-loop-names : goal.invariant-loop-names
-invariant-loop-names g l = record {
-  within : l.names ≤ length l.path;
-  below : l.names < length l.path → is_present (g.V.View.nodes l.view) (take (l.names + 1) l.path) ≡ false;
+-- the nearest path has so many names at least, and so many at most
+abbrev pub invariant-halves : goal.invariant-halves
+invariant-halves g l = record {
+  order : l.present ≤ l.highest;
+  below : l.highest < length l.path;
+  found : is_present (g.V.View.nodes l.view) (take l.present l.path) ≡ true;
+  absent : is_present (g.V.View.nodes l.view) (take (l.highest + 1) l.path) ≡ false;
 }
 
-abbrev pub decreases-loop-names : goal.decreases-loop-names
-decreases-loop-names g l = l.names
+abbrev pub decreases-halves : goal.decreases-halves
+decreases-halves g l = l.highest - l.present

@@ -1,9 +1,8 @@
-use Rattle.std.proofs.Common.{◌≡◌, ◌++◌, sym, ap, subst, ◌∙◌, arith, List, ℕ, Some}
-use Rattle.std.specs.Option.{option_map}
-use Rattle.xs_model.specs.Messages.{string, strings}
+use Rattle.std.proofs.Common.{◌≡◌, ◌++◌, sym, subst, arith, List, ℕ}
+use Rattle.xs_model.specs.Messages.{strings}
 use Rattle.xs_model.specs.Trees.{children}
-use Rattle.node_tree.specs.Names.{names_above, first_name}
-use Rattle.tree_ops.proofs.NameLemmas.{NextName, next_name, fewer_names, strings_on}
+use Rattle.node_tree.specs.Names.{names_above}
+use Rattle.tree_ops.proofs.NameLemmas.{next_name, fewer_names, strings_on}
 use Rattle.tree_ops.proofs.reading.names_payload.Goals as goal
 
 pub names-smaller : goal.names-smaller

@@ -1,4 +1,4 @@
-use Rattle.std.proofs.Common.{◌≡◌, ◌++◌, ◌∷◌, [], List, length, sym, ap, subst, ◌∙◌, arith, append_assoc, Option, Some, None}
+use Rattle.std.proofs.Common.{◌++◌, ◌∷◌, [], List, length, sym, ap, subst, ◌∙◌, arith, append_assoc, Option}
 use Rattle.xs_model.specs.Paths.{Path, path_cmp}
 use Rattle.xs_model.specs.Trees.{all_below}
 use Rattle.xs_model.proofs.PathLemmas.{is_below-itself}

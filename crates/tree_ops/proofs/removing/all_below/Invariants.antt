@@ -1,6 +1,6 @@
 use Rattle.std.proofs.Common.{◌≡◌, ◌++◌, ◌∷◌, true, length}
 use Rattle.xs_model.specs.Paths.{path_cmp, is_below}
-use Rattle.xs_model.specs.Trees.{is_present, all_below}
+use Rattle.xs_model.specs.Trees.{all_below}
 use Rattle.tree_ops.specs.Rising.{behind}
 use Rattle.tree_ops.proofs.removing.all_below.Given as goal
 

@@ -12,4 +12,4 @@ returns-in-Ok c =
     ∙ ap (λ (b : List ℕ). b ++ name) (c.in_ok-push.ensures.ok ∙ ap (λ (b : List ℕ). b ++ 47 ∷ []) (c.in_ok-bytes.ensures ∙ c.names_text.ensures))
     ∙ text_of_child path name
     in
-    from_ok c.in-Ok.made (child path name) (sym c.in-Ok.ensures ∙ ap (λ (t : List ℕ). path_of t 0) bytes ∙ c.requires)
+    from_ok c.in-Ok.made (child path name) (sym c.in-Ok.ensures.gives ∙ ap (λ (t : List ℕ). path_of t 0) bytes ∙ c.requires)

@@ -1,5 +1,5 @@
 use Rattle.std.proofs.Common.{◌≡◌, sym, ap, subst, ◌∙◌, List, ℕ, Some, None}
-use Rattle.xs_model.specs.Paths.{Path, child}
+use Rattle.xs_model.specs.Paths.{Path}
 use Rattle.xs_model.specs.Trees.{children}
 use Rattle.xs_model.proofs.PathLemmas.{same_path-is}
 use Rattle.node_tree.specs.Names.{names_above, first_name}

@@ -1,4 +1,4 @@
-use Rattle.std.proofs.Common.{◌≡◌, ◌+◌, ◌<◌, ◌++◌, ◌∷◌, [], length, get_or, drop, sym, ap, ◌∙◌, arith, List}
+use Rattle.std.proofs.Common.{◌≡◌, ◌+◌, ◌++◌, ◌∷◌, [], get_or, drop, ap, ◌∙◌, arith, List}
 use Rattle.std.proofs.lemmas.List.{get_or_read}
 use Rattle.xs_model.specs.Paths.{Path}
 use Rattle.xs_model.specs.Trees.{Node}
