@@ -6,6 +6,7 @@ use Rattle.std.specs.FinMap.{find, put, nat_cmp-IsAntisymmetric}
 use Rattle.std.specs.FinMap.Entries.{where_key, find-where_key}
 use Rattle.xs_model.specs.declared.message.WireErr.TheVariants.{Eacces, Enoent}
 use Rattle.xs_model.specs.Trees.{Tree}
+use Rattle.xs_model.specs.Generations.{Generations}
 use Rattle.xs_model.specs.Messages.{ok_payload}
 use Rattle.xs_model.specs.Requests.{introduce_domain, release_domain}
 use Rattle.xs_model.proofs.Maps.{from_Some}
@@ -64,63 +65,63 @@ found_without {X} c id es apart =
     ∙ ap (λ b. cond (not b) (find nat_cmp c es) None) apart
 
 -- WHAT IS DONE, by the table
-set_machine : (change : ConnSpec → ConnSpec) (id : ℕ) (old : ConnSpec) (tree : Tree) (specs : Specs) → find nat_cmp id specs ≡ Some old → set_spec_of change id (machine_of tree specs) ≡ machine_of tree (put nat_cmp id (change old) specs)
-set_machine change id old tree specs there =
-    ap (λ found. set_spec change id found (machine_of tree specs)) (conns_found id specs ∙ ap (option_map fresh) there)
-    ∙ ap (λ conns. record { tree = tree; conns = conns }) (conns_put id (change old) specs)
+set_machine : (change : ConnSpec → ConnSpec) (id : ℕ) (old : ConnSpec) (tree : Tree) (gens : Generations) (specs : Specs) → find nat_cmp id specs ≡ Some old → set_spec_of change id (machine_of tree gens specs) ≡ machine_of tree gens (put nat_cmp id (change old) specs)
+set_machine change id old tree gens specs there =
+    ap (λ found. set_spec change id found (machine_of tree gens specs)) (conns_found id specs ∙ ap (option_map fresh) there)
+    ∙ ap (λ conns. record { tree = tree; gens = gens; conns = conns }) (conns_put id (change old) specs)
 
-pub introduced_there : (tree : Tree) (specs : Specs) (d evtchn id : ℕ) (ring : HasRing d id specs) → ring_id d specs ≡ Some id → introduce (machine_of tree specs) d evtchn (ring_of d (conns_of specs)) ≡ granted (machine_of tree (put nat_cmp id (Ring d ring.target evtchn) specs))
-introduced_there tree specs d evtchn id ring found =
-    ap (introduce (machine_of tree specs) d evtchn) (conns_ring d specs ∙ found)
-    ∙ ap granted (set_machine (with_evtchn evtchn) id (Ring d ring.target ring.evtchn) tree specs ring.there)
+pub introduced_there : (tree : Tree) (gens : Generations) (specs : Specs) (d evtchn id : ℕ) (ring : HasRing d id specs) → ring_id d specs ≡ Some id → introduce (machine_of tree gens specs) d evtchn (ring_of d (conns_of specs)) ≡ granted (machine_of tree gens (put nat_cmp id (Ring d ring.target evtchn) specs))
+introduced_there tree gens specs d evtchn id ring found =
+    ap (introduce (machine_of tree gens specs) d evtchn) (conns_ring d specs ∙ found)
+    ∙ ap granted (set_machine (with_evtchn evtchn) id (Ring d ring.target ring.evtchn) tree gens specs ring.there)
 
-pub introduced_new : (tree : Tree) (specs : Specs) (d evtchn : ℕ) → ring_id d specs ≡ None → introduce (machine_of tree specs) d evtchn (ring_of d (conns_of specs)) ≡ granted (machine_of tree (put nat_cmp (least_free specs) (Ring d None evtchn) specs))
-introduced_new tree specs d evtchn absent =
+pub introduced_new : (tree : Tree) (gens : Generations) (specs : Specs) (d evtchn : ℕ) → ring_id d specs ≡ None → introduce (machine_of tree gens specs) d evtchn (ring_of d (conns_of specs)) ≡ granted (machine_of tree gens (put nat_cmp (least_free specs) (Ring d None evtchn) specs))
+introduced_new tree gens specs d evtchn absent =
     let new : Specs = put nat_cmp (least_free specs) (Ring d None evtchn) specs in
     let made : put nat_cmp (least_free (conns_of specs)) (fresh (Ring d None evtchn)) (conns_of specs) ≡ conns_of new =
     ap (λ id. put nat_cmp id (fresh (Ring d None evtchn)) (conns_of specs)) (fresh_free specs) ∙ conns_put (least_free specs) (Ring d None evtchn) specs
     in
     let sends = ap (special_sends introduce_domain) made ∙ nothing_special introduce_domain new in
-    ap (introduce (machine_of tree specs) d evtchn) (conns_ring d specs ∙ absent)
-    ∙ (λ i. record { reply = Ok ok_payload; machine = record { tree = tree; conns = made i }; sends = sends i })
+    ap (introduce (machine_of tree gens specs) d evtchn) (conns_ring d specs ∙ absent)
+    ∙ (λ i. record { reply = Ok ok_payload; machine = record { tree = tree; gens = gens; conns = made i }; sends = sends i })
 
-pub released : (tree : Tree) (specs : Specs) (d id : ℕ) → ring_id d specs ≡ Some id → release (machine_of tree specs) (ring_of d (conns_of specs)) ≡ granted (machine_of tree (where_key nat_cmp (λ key. not (id == key)) specs))
-released tree specs d id found =
+pub released : (tree : Tree) (gens : Generations) (specs : Specs) (d id : ℕ) → ring_id d specs ≡ Some id → release (machine_of tree gens specs) (ring_of d (conns_of specs)) ≡ granted (machine_of tree gens (where_key nat_cmp (λ key. not (id == key)) specs))
+released tree gens specs d id found =
     let new : Specs = where_key nat_cmp (λ key. not (id == key)) specs in
     let left : where_key nat_cmp (λ key. not (id == key)) (conns_of specs) ≡ conns_of new = conns_without id specs in
     let sends = ap (special_sends release_domain) left ∙ nothing_special release_domain new in
-    ap (release (machine_of tree specs)) (conns_ring d specs ∙ found)
-    ∙ (λ i. record { reply = Ok ok_payload; machine = record { tree = tree; conns = left i }; sends = sends i })
+    ap (release (machine_of tree gens specs)) (conns_ring d specs ∙ found)
+    ∙ (λ i. record { reply = Ok ok_payload; machine = record { tree = tree; gens = gens; conns = left i }; sends = sends i })
 
-pub nothing_released : (tree : Tree) (specs : Specs) (d : ℕ) → ring_id d specs ≡ None → release (machine_of tree specs) (ring_of d (conns_of specs)) ≡ refused Enoent (machine_of tree specs)
-nothing_released tree specs d absent = ap (release (machine_of tree specs)) (conns_ring d specs ∙ absent)
+pub nothing_released : (tree : Tree) (gens : Generations) (specs : Specs) (d : ℕ) → ring_id d specs ≡ None → release (machine_of tree gens specs) (ring_of d (conns_of specs)) ≡ refused Enoent (machine_of tree gens specs)
+nothing_released tree gens specs d absent = ap (release (machine_of tree gens specs)) (conns_ring d specs ∙ absent)
 
-module _ (tree : Tree) (specs : Specs) (d target : ℕ) where
+module _ (tree : Tree) (gens : Generations) (specs : Specs) (d target : ℕ) where
   abbrev target_set : Done
-  target_set = set_target (machine_of tree specs) target (ring_of d (conns_of specs)) (has_ring target (conns_of specs))
+  target_set = set_target (machine_of tree gens specs) target (ring_of d (conns_of specs)) (has_ring target (conns_of specs))
 
-  pub targeted : (id : ℕ) (ring : HasRing d id specs) → ring_id d specs ≡ Some id → is_some (ring_id target specs) ≡ true → target_set ≡ granted (machine_of tree (put nat_cmp id (Ring d (Some target) ring.evtchn) specs))
+  pub targeted : (id : ℕ) (ring : HasRing d id specs) → ring_id d specs ≡ Some id → is_some (ring_id target specs) ≡ true → target_set ≡ granted (machine_of tree gens (put nat_cmp id (Ring d (Some target) ring.evtchn) specs))
   targeted id ring found there =
-      ap (λ o. set_target (machine_of tree specs) target o (has_ring target (conns_of specs))) (conns_ring d specs ∙ found)
-      ∙ ap (set_target (machine_of tree specs) target (Some id)) (ap is_some (conns_ring target specs) ∙ there)
-      ∙ ap granted (set_machine (with_target target) id (Ring d ring.target ring.evtchn) tree specs ring.there)
+      ap (λ o. set_target (machine_of tree gens specs) target o (has_ring target (conns_of specs))) (conns_ring d specs ∙ found)
+      ∙ ap (set_target (machine_of tree gens specs) target (Some id)) (ap is_some (conns_ring target specs) ∙ there)
+      ∙ ap granted (set_machine (with_target target) id (Ring d ring.target ring.evtchn) tree gens specs ring.there)
 
-  pub no_domain : ring_id d specs ≡ None → target_set ≡ refused Enoent (machine_of tree specs)
-  no_domain absent = ap (λ o. set_target (machine_of tree specs) target o (has_ring target (conns_of specs))) (conns_ring d specs ∙ absent)
+  pub no_domain : ring_id d specs ≡ None → target_set ≡ refused Enoent (machine_of tree gens specs)
+  no_domain absent = ap (λ o. set_target (machine_of tree gens specs) target o (has_ring target (conns_of specs))) (conns_ring d specs ∙ absent)
 
-  pub no_target : (id : ℕ) → ring_id d specs ≡ Some id → is_some (ring_id target specs) ≡ false → target_set ≡ refused Enoent (machine_of tree specs)
+  pub no_target : (id : ℕ) → ring_id d specs ≡ Some id → is_some (ring_id target specs) ≡ false → target_set ≡ refused Enoent (machine_of tree gens specs)
   no_target id found absent =
-      ap (λ o. set_target (machine_of tree specs) target o (has_ring target (conns_of specs))) (conns_ring d specs ∙ found)
-      ∙ ap (set_target (machine_of tree specs) target (Some id)) (ap is_some (conns_ring target specs) ∙ absent)
+      ap (λ o. set_target (machine_of tree gens specs) target o (has_ring target (conns_of specs))) (conns_ring d specs ∙ found)
+      ∙ ap (set_target (machine_of tree gens specs) target (Some id)) (ap is_some (conns_ring target specs) ∙ absent)
 
 -- WHAT WAS DONE, by what the code holds of it: a ring connection got another end
-module _ (c : ℕ) (tree : Tree) (peers : Connected) (sound : IsSound peers) (done : Done) (answer : Answer) (replied : answer.reply ≡ Ok ok_payload) (new : Connected) (kept : IsSound new) where
-  pub did_set : (specs : Specs) → new.specs ≡ specs → new.queues ≡ peers.queues → done ≡ granted (machine_of tree specs) → answer.door ≡ Same → Did c tree peers done answer tree new
+module _ (c : ℕ) (tree : Tree) (gens : Generations) (peers : Connected) (sound : IsSound peers) (done : Done) (answer : Answer) (replied : answer.reply ≡ Ok ok_payload) (new : Connected) (kept : IsSound new) where
+  pub did_set : (specs : Specs) → new.specs ≡ specs → new.queues ≡ peers.queues → done ≡ granted (machine_of tree gens specs) → answer.door ≡ Same → Did c tree peers done answer tree new
   did_set specs set queues acted door =
       let same : map (λ e. e.0) new.specs ≡ map (λ e. e.0) peers.specs = sym kept.ids ∙ ap (map (λ e. e.0)) queues ∙ sound.ids in
       let conns_same : map (λ e. e.0) (conns_of new.specs) ≡ map (λ e. e.0) (conns_of peers.specs) = keys_map fresh new.specs ∙ same ∙ sym (keys_map fresh peers.specs) in
-      did c tree peers sound done (Ok ok_payload) answer replied tree new
-      (acted ∙ ap (λ es. granted (machine_of tree es)) (sym set))
+      did c tree peers sound done (Ok ok_payload) answer replied tree gens new
+      (acted ∙ ap (λ es. granted (machine_of tree gens es)) (sym set))
       (subst (IsDoor (conns_of peers.specs) (conns_of new.specs)) (sym door) conns_same)
       (ap (λ q. unsent_of q) queues ∙ unsent_same peers sound new.specs same) (ap (find nat_cmp c) queues) kept
 
@@ -129,7 +130,7 @@ module _ (c : ℕ) (tree : Tree) (peers : Connected) (sound : IsSound peers) (do
       → new.specs ≡ put nat_cmp (least_free peers.specs) (Ring d None evtchn) peers.specs
       → unsent_of new.queues ≡ put nat_cmp (least_free peers.specs) [] (unsent_of peers.queues)
       → ((other : ℕ) → (other == least_free peers.specs) ≡ false → find nat_cmp other new.queues ≡ find nat_cmp other peers.queues)
-      → done ≡ granted (machine_of tree (put nat_cmp (least_free peers.specs) (Ring d None evtchn) peers.specs)) → answer.door ≡ Opened d → Did c tree peers done answer tree new
+      → done ≡ granted (machine_of tree gens (put nat_cmp (least_free peers.specs) (Ring d None evtchn) peers.specs)) → answer.door ≡ Opened d → Did c tree peers done answer tree new
   did_open asker there d evtchn none specs bytes others acted door =
       let id : ℕ = least_free peers.specs in
       let ring : ConnSpec = Ring d None evtchn in
@@ -141,8 +142,8 @@ module _ (c : ℕ) (tree : Tree) (peers : Connected) (sound : IsSound peers) (do
         free = conns_found id peers.specs ∙ ap (option_map fresh) least.free;
         made = ap conns_of specs ∙ sym (conns_put id ring peers.specs);
       } in
-      did c tree peers sound done (Ok ok_payload) answer replied tree new
-      (acted ∙ ap (λ es. granted (machine_of tree es)) (sym specs))
+      did c tree peers sound done (Ok ok_payload) answer replied tree gens new
+      (acted ∙ ap (λ es. granted (machine_of tree gens es)) (sym specs))
       (subst (IsDoor (conns_of peers.specs) (conns_of new.specs)) (sym door) opens)
       (bytes ∙ unsent_more peers sound id ring least.free ∙ ap (λ es. unsent_by es (unsent_of peers.queues)) (sym specs))
       (others c (ne_eqb c id (λ same. taken same least.free))) kept
@@ -154,15 +155,15 @@ module _ (c : ℕ) (tree : Tree) (peers : Connected) (sound : IsSound peers) (do
   pub did_close : (asker : ConnSpec) → find nat_cmp c peers.specs ≡ Some asker → (caller_of asker).domid ≡ 0 → (d id : ℕ) (ring : HasRing d id peers.specs) → 0 < d → ring_id d peers.specs ≡ Some id
       → new.specs ≡ where_key nat_cmp (λ key. not (id == key)) peers.specs
       → new.queues ≡ where_key nat_cmp (λ key. not (id == key)) peers.queues
-      → done ≡ granted (machine_of tree (where_key nat_cmp (λ key. not (id == key)) peers.specs)) → answer.door ≡ Closed d → Did c tree peers done answer tree new
+      → done ≡ granted (machine_of tree gens (where_key nat_cmp (λ key. not (id == key)) peers.specs)) → answer.door ≡ Closed d → Did c tree peers done answer tree new
   did_close asker there control d id ring positive found specs queues acted door =
       let closes : Closes d (conns_of peers.specs) (conns_of new.specs) = record {
         conn = id;
         was = conns_ring d peers.specs ∙ found;
         removed = ap conns_of specs ∙ sym (conns_without id peers.specs);
       } in
-      did c tree peers sound done (Ok ok_payload) answer replied tree new
-      (acted ∙ ap (λ es. granted (machine_of tree es)) (sym specs))
+      did c tree peers sound done (Ok ok_payload) answer replied tree gens new
+      (acted ∙ ap (λ es. granted (machine_of tree gens es)) (sym specs))
       (subst (IsDoor (conns_of peers.specs) (conns_of new.specs)) (sym door) closes)
       (ap (λ q. unsent_of q) queues ∙ unsent_less peers sound (λ key. not (id == key)) ∙ ap (λ es. unsent_by es (unsent_of peers.queues)) (sym specs))
       (ap (find nat_cmp c) queues ∙ found_without c id peers.queues (ne_eqb id c (λ same. its_own same))) kept

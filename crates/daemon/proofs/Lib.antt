@@ -4,5 +4,6 @@ pub mod SubmitLemmas
 pub mod FreshLemmas
 pub mod ReplyLemmas
 pub mod UnsentLemmas
+pub mod PartLemmas
 pub mod ActLemmas
 pub mod DomainLemmas

@@ -13,7 +13,8 @@ use Rattle.machine_model.specs.Connections.{with_evtchn, with_target}
 use Rattle.out_queues.specs.Queues.{Queue}
 use Rattle.conn_table.specs.Tables.{Specs, IsTable, IsDomain, is_socket, count_sockets}
 use Rattle.conn_table.proofs.SmallLemmas.{tables_are_small}
-use Rattle.daemon.specs.Peers.{Connected, unsent_of, IsInBounds, IsSoundTable, IsSound, crowd_limit, HasRoom, Moves}
+use Rattle.machine_model.specs.declared.bounds.TheConstants.{CROWD_LIMIT}
+use Rattle.daemon.specs.Peers.{Connected, unsent_of, IsInBounds, IsSoundTable, IsSound, HasRoom, Moves}
 use Rattle.daemon.proofs.KeepsLemmas.{put_map, keys_map, same_put, same_where, same_rising, found_itself, put_again}
 
 -- UNSENT BYTES by connection
@@ -162,11 +163,11 @@ pub table_is_small : (specs : Specs) → IsSoundTable specs → length specs ≤
 table_is_small specs sound = let small = tables_are_small specs sound.table (domains specs sound.bounds) in omega (arith, small.most, sound.sockets)
 
 -- THE CONNECTIONS WITH THEIR QUEUES
-short_queues : (queues : List (ℕ × Queue)) → AllByRecursion (λ e. length e.1 ≤ crowd_limit) (unsent_of queues) → AllByRecursion (λ e. length e.1.bytes ≤ crowd_limit) queues
+short_queues : (queues : List (ℕ × Queue)) → AllByRecursion (λ e. length e.1 ≤ CROWD_LIMIT) (unsent_of queues) → AllByRecursion (λ e. length e.1.bytes ≤ CROWD_LIMIT) queues
 short_queues [] h = tt
 short_queues (e ∷ es) h = (h.0, short_queues es h.1)
 
-pub short_unsent : (queues : List (ℕ × Queue)) → AllByRecursion (λ e. length e.1.bytes ≤ crowd_limit) queues → AllByRecursion (λ e. length e.1 ≤ crowd_limit) (unsent_of queues)
+pub short_unsent : (queues : List (ℕ × Queue)) → AllByRecursion (λ e. length e.1.bytes ≤ CROWD_LIMIT) queues → AllByRecursion (λ e. length e.1 ≤ CROWD_LIMIT) (unsent_of queues)
 short_unsent [] h = tt
 short_unsent (e ∷ es) h = (h.0, short_unsent es h.1)
 
@@ -174,11 +175,11 @@ pub unsent_keys : (queues : List (ℕ × Queue)) → map (λ e. e.0) (unsent_of 
 unsent_keys queues = keys_map (λ (q : Queue). q.bytes) queues
 
 -- by the bytes that are unsent
-pub sound_by : (peers : Connected) (unsent : List (ℕ × List ℕ)) → unsent_of peers.queues ≡ unsent → IsSoundTable peers.specs → map (λ e. e.0) unsent ≡ map (λ e. e.0) peers.specs → AllByRecursion (λ e. length e.1 ≤ crowd_limit) unsent → IsSound peers
+pub sound_by : (peers : Connected) (unsent : List (ℕ × List ℕ)) → unsent_of peers.queues ≡ unsent → IsSoundTable peers.specs → map (λ e. e.0) unsent ≡ map (λ e. e.0) peers.specs → AllByRecursion (λ e. length e.1 ≤ CROWD_LIMIT) unsent → IsSound peers
 sound_by peers unsent is table ids short = record {
   table = table;
   ids = sym (unsent_keys peers.queues) ∙ ap (map (λ e. e.0)) is ∙ ids;
-  short = short_queues peers.queues (subst (AllByRecursion (λ e. length e.1 ≤ crowd_limit)) (sym is) short);
+  short = short_queues peers.queues (subst (AllByRecursion (λ e. length e.1 ≤ CROWD_LIMIT)) (sym is) short);
 }
 
 module _ (peers : Connected) (sound : IsSound peers) where
@@ -191,18 +192,18 @@ module _ (peers : Connected) (sound : IsSound peers) where
       sound_by new (unsent_of peers.queues) bytes (subst IsSoundTable (sym specs) sound.table) (ids_unsent ∙ ap (map (λ e. e.0)) (sym specs)) (short_unsent peers.queues sound.short)
 
   -- other bytes of one connection
-  pub sound_put : (new : Connected) (c : ℕ) (bytes old : List ℕ) → find nat_cmp c (unsent_of peers.queues) ≡ Some old → length bytes ≤ crowd_limit → new.specs ≡ peers.specs → unsent_of new.queues ≡ put nat_cmp c bytes (unsent_of peers.queues) → IsSound new
+  pub sound_put : (new : Connected) (c : ℕ) (bytes old : List ℕ) → find nat_cmp c (unsent_of peers.queues) ≡ Some old → length bytes ≤ CROWD_LIMIT → new.specs ≡ peers.specs → unsent_of new.queues ≡ put nat_cmp c bytes (unsent_of peers.queues) → IsSound new
   sound_put new c bytes old there fits specs is =
       let unsent = unsent_of peers.queues in
       let rising = same_rising unsent peers.specs ids_unsent ∙ sound.table.table.rising in
       sound_by new (put nat_cmp c bytes unsent) is (subst IsSoundTable (sym specs) sound.table)
       (same_put unsent unsent refl c bytes old ∙ ap (map (λ e. e.0)) (put_again c old unsent rising there) ∙ ids_unsent ∙ ap (map (λ e. e.0)) (sym specs))
-      (all_put nat_cmp (λ b. length b ≤ crowd_limit) c bytes unsent fits (short_unsent peers.queues sound.short))
+      (all_put nat_cmp (λ b. length b ≤ CROWD_LIMIT) c bytes unsent fits (short_unsent peers.queues sound.short))
 
   -- without the first of them
   pub sound_pulled : (new : Connected) (c : ℕ) (into into_new : List ℕ) (n : ℕ) → new.specs ≡ peers.specs → Moves peers.queues c into new.queues into_new n → IsSound new
   sound_pulled new c into into_new n specs moved =
-      let fits = all_found nat_cmp (λ (b : List ℕ). length b ≤ crowd_limit) c (unsent_of peers.queues) moved.bytes (short_unsent peers.queues sound.short) moved.there in
+      let fits = all_found nat_cmp (λ (b : List ℕ). length b ≤ CROWD_LIMIT) c (unsent_of peers.queues) moved.bytes (short_unsent peers.queues sound.short) moved.there in
       sound_put new c (drop n moved.bytes) moved.bytes moved.there (omega (arith, length-drop n moved.bytes, fits)) specs moved.unsent
 
   -- a connection more, to which nothing is unsent
@@ -210,14 +211,14 @@ module _ (peers : Connected) (sound : IsSound peers) where
   sound_added new c spec table specs is =
       sound_by new (put nat_cmp c [] (unsent_of peers.queues)) is table
       (same_put (unsent_of peers.queues) peers.specs ids_unsent c [] spec ∙ ap (map (λ e. e.0)) (sym specs))
-      (all_put nat_cmp (λ b. length b ≤ crowd_limit) c [] (unsent_of peers.queues) (omega arith) (short_unsent peers.queues sound.short))
+      (all_put nat_cmp (λ b. length b ≤ CROWD_LIMIT) c [] (unsent_of peers.queues) (omega arith) (short_unsent peers.queues sound.short))
 
   -- without one
   pub sound_without : (p : ℕ → Bool) → IsTable (where_key nat_cmp p peers.specs) → IsSound (record { specs = where_key nat_cmp p peers.specs; queues = where_key nat_cmp p peers.queues })
   sound_without p table = record {
     table = table_without peers.specs sound.table p table;
     ids = same_where peers.queues peers.specs sound.ids p;
-    short = all_where nat_cmp (λ (q : Queue). length q.bytes ≤ crowd_limit) p peers.queues sound.short;
+    short = all_where nat_cmp (λ (q : Queue). length q.bytes ≤ CROWD_LIMIT) p peers.queues sound.short;
   }
 
   -- with another end of one of them

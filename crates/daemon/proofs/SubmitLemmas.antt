@@ -12,19 +12,22 @@ use Rattle.xs_model.proofs.Maps.{from_Some, not_Some, sorted_put, same_maps}
 use Rattle.xs_model.specs.Trees.{Tree}
 use Rattle.xs_model.specs.declared.message.Header.{Header}
 use Rattle.xs_model.specs.Messages.{Message, message_bytes, header_of, payload_of}
-use Rattle.xs_model.specs.Requests.{request_of, built_types}
+use Rattle.xs_model.specs.Requests.{request_of}
+use Rattle.machine_model.specs.Machine.{built_types}
 use Rattle.out_queues.specs.Queues.{Queue}
 use Rattle.machine_model.specs.declared.ConnSpec.{ConnSpec}
 use Rattle.machine_model.specs.Connections.{fresh, caller_of, ring_of}
 use Rattle.machine_model.specs.Machine.{Machine, Asked, Lost, Send, Done, Step, step_with, with_conn, act_or_refuse, reply_message, answered, step_of_conn, built_step}
-use Rattle.machine_model.specs.History.{sent_to}
+use Rattle.machine_model.specs.History.{sent_to, bytes_or_none, unsent_after, crowded}
+use Rattle.machine_model.specs.declared.bounds.TheConstants.{HELD_LIMIT, CROWD_LIMIT}
+use Rattle.xs_model.specs.Generations.{Generations}
 use Rattle.conn_table.specs.Tables.{Specs, ring_id}
 use Rattle.daemon.specs.declared.reply.Answer.{Answer}
 use Rattle.daemon.specs.declared.answer.Pull.TheVariants.{Got, Nothing, Gone}
 use Rattle.daemon.specs.Keeps.{Kept, StandsFor, conns_of}
-use Rattle.daemon.specs.Peers.{Connected, IsSound, PulledFrom, unsent_of, crowd_limit}
-use Rattle.daemon.specs.Acts.{kept_of, machine_of, bytes_or_none, unsent_by, IsDoor, Did}
-use Rattle.daemon.specs.Submits.{Pulled, Adds, Drops, held_limit, unsent_after, crowded, Takes}
+use Rattle.daemon.specs.Peers.{Connected, IsSound, PulledFrom, unsent_of}
+use Rattle.daemon.specs.Acts.{kept_of, machine_of, unsent_by, IsDoor, Did}
+use Rattle.daemon.specs.Submits.{Pulled, Adds, Drops, Takes}
 use Rattle.daemon.proofs.KeepsLemmas.{where_map, same_there, none_there, conns_found, conns_put, conns_without, conns_ring, put_again, same_rising, keyed, found_at}
 use Rattle.daemon.proofs.PeerLemmas.{unsent_found, ids_unsent, short_unsent, sound_put}
 
@@ -171,17 +174,17 @@ module _ (c : ℕ) (sent : Message) (bytes : List ℕ) (unsent : List (ℕ × Li
       ap (λ b. bytes_or_none (find nat_cmp q unsent) ++ flat_map (λ (s : Send). message_bytes s.1) (cond b ((c, sent) ∷ []) [])) apart
       ∙ append-nil (bytes_or_none (find nat_cmp q unsent))
 
-  one_sent : (tree : Tree) (specs : Specs) → is_sorted nat_cmp specs ≡ true → is_some (find nat_cmp c specs) ≡ true
-      → unsent_after (machine_of tree specs, (c, sent) ∷ []) unsent ≡ put nat_cmp c (bytes ++ message_bytes sent) (unsent_by specs unsent)
-  one_sent tree specs rising here =
+  one_sent : (tree : Tree) (gens : Generations) (specs : Specs) → is_sorted nat_cmp specs ≡ true → is_some (find nat_cmp c specs) ≡ true
+      → unsent_after (machine_of tree gens specs, (c, sent) ∷ []) unsent ≡ put nat_cmp c (bytes ++ message_bytes sent) (unsent_by specs unsent)
+  one_sent tree gens specs rising here =
       told_specs grown specs
       ∙ one_changed grown (λ q. bytes_or_none (find nat_cmp q unsent)) c specs rising here to_others
       ∙ ap (λ b. put nat_cmp c b (unsent_by specs unsent)) to_itself
 
 -- nobody has too many
-uncrowded : (unsent : List (ℕ × List ℕ)) → AllByRecursion (λ e. length e.1 ≤ crowd_limit) unsent → crowded unsent ≡ None
+uncrowded : (unsent : List (ℕ × List ℕ)) → AllByRecursion (λ e. length e.1 ≤ CROWD_LIMIT) unsent → crowded unsent ≡ None
 uncrowded [] h = refl
-uncrowded (e ∷ es) h = ap (λ (b : Bool). cond b (Some e.0) (crowded es)) (le-ltb crowd_limit (length e.1) h.0) ∙ uncrowded es h.1
+uncrowded (e ∷ es) h = ap (λ (b : Bool). cond b (Some e.0) (crowded es)) (le-ltb CROWD_LIMIT (length e.1) h.0) ∙ uncrowded es h.1
 
 -- there is a queue for each connection
 pub there_unsent : (peers : Connected) → IsSound peers → (c : ℕ) (spec : ConnSpec) → find nat_cmp c peers.specs ≡ Some spec → (bytes : List ℕ) × (find nat_cmp c (unsent_of peers.queues) ≡ Some bytes)
@@ -192,47 +195,50 @@ there_unsent peers sound c spec there = by (find nat_cmp c (unsent_of peers.queu
     by (Some b) h = (b, refl)
 
 -- what is done for a request of a connection with this end
-abbrev done_for : Tree → Connected → ℕ → ConnSpec → Header → List ℕ → Done
-done_for tree peers c spec head payload =
-    act_or_refuse (machine_of tree peers.specs) c (fresh spec) head.tx_id (request_of built_types head.kind payload (caller_of spec).domid)
+abbrev done_for : Tree → Generations → Connected → ℕ → ConnSpec → Header → List ℕ → Done
+done_for tree gens peers c spec head payload =
+    act_or_refuse (machine_of tree gens peers.specs) c (fresh spec) head.tx_id (request_of built_types head.kind payload (caller_of spec).domid)
 
 module _ (tree tree_new : Tree) (old peers new : Connected) (c : ℕ) (spec : ConnSpec) (answer : Answer) (head : Header) (payload message sent : List ℕ)
     (sound : IsSound old) (there : find nat_cmp c old.specs ≡ Some spec)
-    (few : (bytes : List ℕ) → find nat_cmp c (unsent_of old.queues) ≡ Some bytes → length bytes < held_limit)
-    (did : Did c tree old (done_for tree old c spec head payload) answer tree_new peers)
+    (few : (bytes : List ℕ) → find nat_cmp c (unsent_of old.queues) ≡ Some bytes → length bytes < HELD_LIMIT)
+    (did : (gens : Generations) → Did c tree old (done_for tree gens old c spec head payload) answer tree_new peers)
     (fits : length sent ≤ 4112)
     (specs : new.specs ≡ peers.specs)
     (pushed : (bytes : List ℕ) → find nat_cmp c (unsent_of peers.queues) ≡ Some bytes → unsent_of new.queues ≡ put nat_cmp c (bytes ++ sent) (unsent_of peers.queues)) where
+  abbrev did_now : Did c tree old (done_for tree [] old c spec head payload) answer tree_new peers
+  did_now = did []
+
   same_bytes : find nat_cmp c (unsent_of peers.queues) ≡ find nat_cmp c (unsent_of old.queues)
-  same_bytes = unsent_found c peers.queues ∙ ap (option_map (λ (q : Queue). q.bytes)) did.asker ∙ sym (unsent_found c old.queues)
+  same_bytes = unsent_found c peers.queues ∙ ap (option_map (λ (q : Queue). q.bytes)) did_now.asker ∙ sym (unsent_found c old.queues)
 
   pub taken_sound : IsSound new
   taken_sound =
       let had = there_unsent old sound c spec there in
       let still = same_bytes ∙ had.1 in
       let short = few had.0 had.1 in
-      sound_put peers did.sound new c (had.0 ++ sent) had.0 still (simp length-append (omega arith)) specs (pushed had.0 still)
+      sound_put peers did_now.sound new c (had.0 ++ sent) had.0 still (simp length-append (omega arith)) specs (pushed had.0 still)
 
   -- the store steps so
-  stepped : head ≡ header_of message → payload ≡ payload_of message → built_step (machine_of tree old.specs) (Asked c message) ≡ (machine_of tree_new peers.specs, (c, reply_message head answer.reply) ∷ [])
-  stepped heads pays =
-      ap (step_of_conn built_types (machine_of tree old.specs) c message) (conns_found c old.specs ∙ ap (option_map fresh) there)
-      ∙ (λ i. answered c (sym heads i) (done_for tree old c spec (sym heads i) (sym pays i)))
-      ∙ (λ i. (did.machine i, (c, reply_message head (sym did.reply i)) ∷ did.sends i))
+  stepped : (gens : Generations) → head ≡ header_of message → payload ≡ payload_of message → built_step (machine_of tree gens old.specs) (Asked c message) ≡ (machine_of tree_new (did gens).gens peers.specs, (c, reply_message head answer.reply) ∷ [])
+  stepped gens heads pays =
+      ap (step_of_conn built_types (machine_of tree gens old.specs) c message) (conns_found c old.specs ∙ ap (option_map fresh) there)
+      ∙ (λ i. answered c (sym heads i) (done_for tree gens old c spec (sym heads i) (sym pays i)))
+      ∙ (λ i. ((did gens).machine i, (c, reply_message head (sym (did gens).reply i)) ∷ (did gens).sends i))
 
   pub taken : head ≡ header_of message → payload ≡ payload_of message → sent ≡ message_bytes (reply_message head answer.reply) → (m : Machine) → StandsFor (kept_of tree old) m → Takes (kept_of tree old) m c message answer.door (kept_of tree_new new)
   taken heads pays spelled m stands =
       let had = there_unsent old sound c spec there in
       let unsent = unsent_of old.queues in
-      let before : Machine = machine_of tree old.specs in
-      let step = stepped heads pays in
+      let before : Machine = machine_of tree m.gens old.specs in
+      let step = stepped m.gens heads pays in
       let here : is_some (find nat_cmp c peers.specs) ≡ true =
-      sym (same_unsent peers did.sound c) ∙ ap is_some (same_bytes ∙ had.1)
+      sym (same_unsent peers did_now.sound c) ∙ ap is_some (same_bytes ∙ had.1)
       in
       let joined : unsent_after (built_step before (Asked c message)) unsent ≡ unsent_of new.queues =
       ap (λ s. unsent_after s unsent) step
-      ∙ one_sent c (reply_message head answer.reply) had.0 unsent had.1 tree_new peers.specs did.sound.table.table.rising here
-      ∙ (λ i. put nat_cmp c (had.0 ++ sym spelled i) (sym did.unsent i))
+      ∙ one_sent c (reply_message head answer.reply) had.0 unsent had.1 tree_new (did m.gens).gens peers.specs did_now.sound.table.table.rising here
+      ∙ (λ i. put nat_cmp c (had.0 ++ sym spelled i) (sym did_now.unsent i))
       ∙ sym (pushed had.0 (same_bytes ∙ had.1))
       in
       let at : Takes (kept_of tree old) before c message answer.door (kept_of tree_new new) = record {
@@ -241,8 +247,8 @@ module _ (tree tree_new : Tree) (old peers new : Connected) (c : ℕ) (spec : Co
         few = few had.0 had.1;
         uncrowded = ap crowded joined ∙ uncrowded (unsent_of new.queues) (short_unsent new.queues taken_sound.short);
         stands = subst (StandsFor (kept_of tree_new new)) (ap (λ (s : Step). s.0) (sym step))
-            (stands_for tree_new new taken_sound (machine_of tree_new peers.specs) refl (ap conns_of (sym specs)));
+            (stands_for tree_new new taken_sound (machine_of tree_new (did m.gens).gens peers.specs) refl (ap conns_of (sym specs)));
         unsent = sym joined;
-        door = subst (λ (s : Step). IsDoor (conns_of old.specs) s.0.conns answer.door) (sym step) did.door;
+        door = subst (λ (s : Step). IsDoor (conns_of old.specs) s.0.conns answer.door) (sym step) did_now.door;
       } in
-      subst (λ (n : Machine). Takes (kept_of tree old) n c message answer.door (kept_of tree_new new)) (λ i. record { tree = sym stands.tree i; conns = sym stands.conns i }) at
+      subst (λ (n : Machine). Takes (kept_of tree old) n c message answer.door (kept_of tree_new new)) (λ i. record { tree = sym stands.tree i; gens = m.gens; conns = sym stands.conns i }) at

@@ -10,7 +10,8 @@ use Rattle.xs_model.proofs.Maps.{sorted_put}
 use Rattle.machine_model.specs.declared.ConnSpec.{ConnSpec}
 use Rattle.conn_table.specs.Tables.{Specs}
 use Rattle.daemon.specs.Peers.{Connected, IsSound, unsent_of}
-use Rattle.daemon.specs.Acts.{bytes_or_none, unsent_by}
+use Rattle.daemon.specs.Acts.{unsent_by}
+use Rattle.machine_model.specs.History.{bytes_or_none}
 use Rattle.daemon.proofs.KeepsLemmas.{where_map, same_put, same_there, same_rising, none_there, found_at}
 use Rattle.daemon.proofs.PeerLemmas.{ids_unsent}
 

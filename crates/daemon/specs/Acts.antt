@@ -1,23 +1,25 @@
 -- What one request does to the tree and to the connections of a daemon. This project's own.
-use Rattle.std.specs.Prelude.{◌≡◌, ℕ, ◌==◌, not, true, List, [], map, length, ◌≤◌, Option, Some, None}
+use Rattle.std.specs.Prelude.{◌≡◌, ℕ, ◌==◌, not, true, List, [], map, length, ◌≤◌, Some, None}
 use Rattle.std.specs.Ordering.{nat_cmp}
 use Rattle.std.specs.FinMap.{find, put}
 use Rattle.std.specs.FinMap.Entries.{where_key}
 use Rattle.machine_model.specs.declared.ConnSpec.TheVariants.{Ring}
 use Rattle.machine_model.specs.Connections.{Connections, fresh, ring_of}
 use Rattle.machine_model.specs.Machine.{Machine, Done}
+use Rattle.machine_model.specs.History.{Unsent, unsent_to}
+use Rattle.xs_model.specs.Generations.{Generations}
 use Rattle.xs_model.specs.Trees.{Tree}
 use Rattle.conn_table.specs.Tables.{Specs}
-use Rattle.out_queues.specs.Queues.{whole_behind}
+use Rattle.xs_model.specs.Wholes.{whole_behind}
 use Rattle.daemon.specs.declared.answer.Door.{Door}
 use Rattle.daemon.specs.declared.answer.Door.TheVariants.{Same, Opened, Closed}
 use Rattle.daemon.specs.declared.reply.Answer.{Answer}
 use Rattle.daemon.specs.Keeps.{Kept, conns_of}
 use Rattle.daemon.specs.Peers.{Connected, IsSound, unsent_of}
 
--- the store with a tree and with the connections of a table
-abbrev pub machine_of : Tree → Specs → Machine
-machine_of tree specs = record { tree = tree; conns = conns_of specs }
+-- the store with a tree, its numbers, and the connections of a table
+abbrev pub machine_of : Tree → Generations → Specs → Machine
+machine_of tree gens specs = record { tree = tree; gens = gens; conns = conns_of specs }
 
 -- what a daemon keeps, by its tree and its connections
 abbrev pub kept_of : Tree → Connected → Kept
@@ -43,20 +45,16 @@ IsDoor before after Same = map (λ e. e.0) after ≡ map (λ e. e.0) before
 IsDoor before after (Opened d) = Opens d before after
 IsDoor before after (Closed d) = Closes d before after
 
--- UNSENT BYTES by connection: none for a new one
-abbrev pub bytes_or_none : Option (List ℕ) → List ℕ
-bytes_or_none None = []
-bytes_or_none (Some bytes) = bytes
-
--- what was unsent, of the connections of this table
-abbrev pub unsent_by : Specs → List (ℕ × List ℕ) → List (ℕ × List ℕ)
-unsent_by specs unsent = map (λ e. (e.0, bytes_or_none (find nat_cmp e.0 unsent))) specs
+-- UNSENT BYTES of the connections of this table: what was unsent, and none for a new one
+abbrev pub unsent_by : Specs → Unsent → Unsent
+unsent_by specs unsent = map (λ e. (e.0, unsent_to e.0 unsent)) specs
 
 -- WHAT A REQUEST of the connection c did: what the definition says, and what is unsent to the connections that stay is
--- as it was
+-- as it was. The numbers of paths are not kept yet: nothing that is served shows them.
 pub record Did (c : ℕ) (tree : Tree) (peers : Connected) (done : Done) (answer : Answer) (tree_new : Tree) (peers_new : Connected) : Type 0 where
   pub reply : answer.reply ≡ done.reply
-  pub machine : done.machine ≡ machine_of tree_new peers_new.specs
+  pub gens : Generations
+  pub machine : done.machine ≡ machine_of tree_new gens peers_new.specs
   pub sends : done.sends ≡ []
   pub door : IsDoor (conns_of peers.specs) (conns_of peers_new.specs) answer.door
   pub unsent : unsent_of peers_new.queues ≡ unsent_by peers_new.specs (unsent_of peers.queues)

@@ -3,6 +3,7 @@ use Rattle.std.specs.Prelude.{◌≡◌, ℕ, ◌≤◌, ◌++◌, List, map, mi
 use Rattle.std.specs.List.{AllByRecursion}
 use Rattle.std.specs.Ordering.{nat_cmp}
 use Rattle.std.specs.FinMap.{find, put}
+use Rattle.machine_model.specs.declared.bounds.TheConstants.{CROWD_LIMIT}
 use Rattle.machine_model.specs.declared.ConnSpec.{ConnSpec}
 use Rattle.machine_model.specs.declared.ConnSpec.TheVariants.{Ring, Socket}
 use Rattle.out_queues.specs.Queues.{Queue}
@@ -32,15 +33,11 @@ pub record IsSoundTable (specs : Specs) : Type 0 where
   pub bounds : AllByRecursion (λ e. IsInBounds e.1) specs
   pub sockets : count_sockets specs ≤ 65536
 
--- after any request so many bytes may wait at a connection
-abbrev pub crowd_limit : ℕ
-crowd_limit = 16777216
-
 -- what every daemon keeps of its connections: a queue for each and no other, none of which is too long
 pub record IsSound (peers : Connected) : Type 0 where
   pub table : IsSoundTable peers.specs
   pub ids : map (λ e. e.0) peers.queues ≡ map (λ e. e.0) peers.specs
-  pub short : AllByRecursion (λ e. length e.1.bytes ≤ crowd_limit) peers.queues
+  pub short : AllByRecursion (λ e. length e.1.bytes ≤ CROWD_LIMIT) peers.queues
 
 -- the first bytes of a queue were moved into a place, as many as there are and as find room
 pub record Moves (old : List (ℕ × Queue)) (c : ℕ) (into : List ℕ) (new : List (ℕ × Queue)) (into_new : List ℕ) (n : ℕ) : Type 0 where

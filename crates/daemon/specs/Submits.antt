@@ -4,38 +4,24 @@ use Rattle.std.specs.Prelude.{◌≡◌, ℕ, ◌<◌, ◌≤◌, ◌==◌, not,
 use Rattle.std.specs.Ordering.{nat_cmp}
 use Rattle.std.specs.FinMap.{find, put}
 use Rattle.std.specs.FinMap.Entries.{where_key}
+use Rattle.machine_model.specs.declared.bounds.TheConstants.{HELD_LIMIT}
 use Rattle.machine_model.specs.declared.ConnSpec.{ConnSpec}
 use Rattle.machine_model.specs.Connections.{fresh}
-use Rattle.machine_model.specs.Machine.{Machine, Asked, Lost, Step, built_step, step_with, with_conn}
-use Rattle.machine_model.specs.History.{sent_to}
+use Rattle.machine_model.specs.Machine.{Machine, Asked, Lost, built_step, step_with, with_conn}
+use Rattle.machine_model.specs.History.{unsent_after, crowded}
 use Rattle.daemon.specs.declared.answer.Door.{Door}
 use Rattle.daemon.specs.declared.answer.Submit.{Submit}
 use Rattle.daemon.specs.declared.answer.Submit.TheVariants as submit
 use Rattle.daemon.specs.declared.answer.Pull.{Pull}
 use Rattle.daemon.specs.declared.answer.Pull.TheVariants as pull
 use Rattle.daemon.specs.Keeps.{Kept, StandsFor}
-use Rattle.daemon.specs.Peers.{crowd_limit}
-use Rattle.daemon.specs.Acts.{bytes_or_none, IsDoor}
-
--- so many unsent bytes may a connection have, for a request to be taken
-abbrev pub held_limit : ℕ
-held_limit = 32768
-
--- UNSENT BYTES after a step: what is sent joins them, and a new connection had none
-abbrev pub unsent_after : Step → List (ℕ × List ℕ) → List (ℕ × List ℕ)
-unsent_after stepped unsent =
-    map (λ e. (e.0, bytes_or_none (find nat_cmp e.0 unsent) ++ sent_to e.0 stepped.1)) stepped.0.conns
-
--- the least connection that would have too many
-abbrev pub crowded : List (ℕ × List ℕ) → Option ℕ
-crowded [] = None
-crowded (e ∷ es) = if nat_lt crowd_limit (length e.1) then Some e.0 else crowded es
+use Rattle.daemon.specs.Acts.{IsDoor}
 
 -- A REQUEST is taken where its connection has few unsent bytes and nobody would have too many
 pub record Takes (old : Kept) (m : Machine) (c : ℕ) (message : List ℕ) (told : Door) (new : Kept) : Type 0 where
   pub bytes : List ℕ
   pub there : find nat_cmp c old.unsent ≡ Some bytes
-  pub few : length bytes < held_limit
+  pub few : length bytes < HELD_LIMIT
   pub uncrowded : crowded (unsent_after (built_step m (Asked c message)) old.unsent) ≡ None
   pub stands : StandsFor new (built_step m (Asked c message)).0
   pub unsent : new.unsent ≡ unsent_after (built_step m (Asked c message)) old.unsent
@@ -46,13 +32,13 @@ pub record IsHeld (old : Kept) (c : ℕ) (n : ℕ) (new : Kept) : Type 0 where
   pub bytes : List ℕ
   pub there : find nat_cmp c old.unsent ≡ Some bytes
   pub number : n ≡ length bytes
-  pub many : held_limit ≤ n
+  pub many : HELD_LIMIT ≤ n
   pub same : new ≡ old
 
 pub record IsCrowded (old : Kept) (m : Machine) (c : ℕ) (message : List ℕ) (d : ℕ) (new : Kept) : Type 0 where
   pub bytes : List ℕ
   pub there : find nat_cmp c old.unsent ≡ Some bytes
-  pub few : length bytes < held_limit
+  pub few : length bytes < HELD_LIMIT
   pub crowds : crowded (unsent_after (built_step m (Asked c message)) old.unsent) ≡ Some d
   pub same : new ≡ old
 

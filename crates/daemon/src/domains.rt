@@ -6,6 +6,7 @@ ghost use Rattle.std.specs.FinMap.{find};
 ghost use Rattle.xs_model.specs.Messages.{string};
 ghost use Rattle.xs_model.specs.Paths.{text, home};
 ghost use Rattle.xs_model.specs.Requests as model;
+ghost use Rattle.xs_model.specs.Generations.{Generations};
 ghost use Rattle.xs_model.specs.Trees.{Tree};
 ghost use Rattle.machine_model.specs.Connections.{caller_of, fresh};
 ghost use Rattle.machine_model.specs.Machine.{act, introduced_payload};
@@ -64,8 +65,8 @@ pub fn introduce(
     requires sound { IsSound peers.old }
     requires there { find nat_cmp asker.conn peers.old.specs ≡ Some asker.spec }
     requires bound { domid ≤ 32751 }
-    ensures ok { IfOk result (λ answer. (tree : Tree) (tx : ℕ)
-        → Did asker.conn tree peers.old (act (machine_of tree peers.old.specs) asker.conn (fresh asker.spec) tx (model.Introduce domid evtchn)) answer tree peers.new) }
+    ensures ok { IfOk result (λ answer. (tree : Tree) (gens : Generations) (tx : ℕ)
+        → Did asker.conn tree peers.old (act (machine_of tree gens peers.old.specs) asker.conn (fresh asker.spec) tx (model.Introduce domid evtchn)) answer tree peers.new) }
     ensures short { IfOk result (λ answer. IfOk answer.reply (λ payload. length payload ≤ 4096)) }
     ensures err { OnErr result (peers.new ≡ peers.old) }
 {
@@ -94,8 +95,8 @@ pub fn release(
     requires sound { IsSound peers.old }
     requires there { find nat_cmp asker.conn peers.old.specs ≡ Some asker.spec }
     requires not_control { 0 < domid }
-    ensures ok { IfOk result (λ answer. (tree : Tree) (tx : ℕ)
-        → Did asker.conn tree peers.old (act (machine_of tree peers.old.specs) asker.conn (fresh asker.spec) tx (model.Release domid)) answer tree peers.new) }
+    ensures ok { IfOk result (λ answer. (tree : Tree) (gens : Generations) (tx : ℕ)
+        → Did asker.conn tree peers.old (act (machine_of tree gens peers.old.specs) asker.conn (fresh asker.spec) tx (model.Release domid)) answer tree peers.new) }
     ensures short { IfOk result (λ answer. IfOk answer.reply (λ payload. length payload ≤ 4096)) }
     ensures err { OnErr result (peers.new ≡ peers.old) }
 {
@@ -124,8 +125,8 @@ pub fn set_target(
     requires sound { IsSound peers.old }
     requires there { find nat_cmp asker.conn peers.old.specs ≡ Some asker.spec }
     requires bound { target ≤ 32751 }
-    ensures ok { IfOk result (λ answer. (tree : Tree) (tx : ℕ)
-        → Did asker.conn tree peers.old (act (machine_of tree peers.old.specs) asker.conn (fresh asker.spec) tx (model.SetTarget domid target)) answer tree peers.new) }
+    ensures ok { IfOk result (λ answer. (tree : Tree) (gens : Generations) (tx : ℕ)
+        → Did asker.conn tree peers.old (act (machine_of tree gens peers.old.specs) asker.conn (fresh asker.spec) tx (model.SetTarget domid target)) answer tree peers.new) }
     ensures short { IfOk result (λ answer. IfOk answer.reply (λ payload. length payload ≤ 4096)) }
     ensures err { OnErr result (peers.new ≡ peers.old) }
 {

@@ -4,13 +4,14 @@ ghost use Rattle.std.specs.Prelude.{◌≡◌, ◌↔◌, ◌<◌, ◌≤◌, �
 ghost use Rattle.std.specs.List.{AllByRecursion};
 ghost use Rattle.std.specs.Ordering.{nat_cmp};
 ghost use Rattle.std.specs.FinMap.{find};
+ghost use Rattle.machine_model.specs.declared.bounds.TheConstants.{HELD_LIMIT};
 ghost use Rattle.machine_model.specs.Connections.{ring_of};
 ghost use Rattle.machine_model.specs.Machine.{Machine, new_machine};
 ghost use Rattle.conn_table.specs.Tables.{IsTable, is_taken, is_socket, count_sockets};
 ghost use Rattle.daemon.specs.Keeps.{StandsFor};
 ghost use Rattle.daemon.specs.Peers.{IsInBounds, IsSound, IsSoundTable, unsent_of};
 ghost use Rattle.daemon.specs.Acts.{kept_of};
-ghost use Rattle.daemon.specs.Submits.{Submits, Pulled, Adds, Drops, held_limit};
+ghost use Rattle.daemon.specs.Submits.{Submits, Pulled, Adds, Drops};
 
 use crate::act::answer;
 use crate::answer::{Door, Pull, Submit};
@@ -18,13 +19,11 @@ use crate::domains::Asker;
 use crate::peers::Peers;
 use crate::reply::{head_of, payload_of, put_reply};
 use conn_table::{AddErr, ConnSpec, Conns};
+use machine_model::HELD_LIMIT;
 use node_tree::Tree;
 use std::alloc::Global;
 use std::marker::Model;
 use xs_base::NoMemory;
-
-/// With so many unsent bytes a connection's requests are not taken.
-const HELD_LIMIT: usize = 32_768;
 
 /// The most bytes of a message: a header of 16 and a payload of 4096.
 const MESSAGE_MAX: usize = 4112;
@@ -176,7 +175,7 @@ fn submit_to(
     requires message { 16 ≤ length message.now }
     requires sound { IsSound peers.old }
     requires there { find nat_cmp asker.conn peers.old.specs ≡ Some asker.spec }
-    requires few { (bytes : List ℕ) → find nat_cmp asker.conn (unsent_of peers.old.queues) ≡ Some bytes → length bytes < held_limit }
+    requires few { (bytes : List ℕ) → find nat_cmp asker.conn (unsent_of peers.old.queues) ≡ Some bytes → length bytes < HELD_LIMIT }
     ensures ok { IfOk result (Submits (kept_of tree.old.nodes peers.old) asker.conn message.now (kept_of tree.new.nodes peers.new)) }
     ensures sound { IsSound peers.new }
     ensures err { OnErr result (kept_of tree.new.nodes peers.new ≡ kept_of tree.old.nodes peers.old) }
