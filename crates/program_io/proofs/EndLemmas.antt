@@ -1,8 +1,8 @@
 -- What sinks were told, one piece after another.
-use Rattle.std.proofs.Common.{◌≡◌, ℕ, ◌+◌, ◌-◌, length, length-drop, take_all, arith, List, ◌++◌, take, drop, min, sym, ap, subst, ◌∙◌, append_assoc, Option, Some, None}
+use Rattle.std.proofs.Common.{◌≡◌, ℕ, ◌+◌, ◌-◌, length, length-drop, take_all, arith, List, [], ◌++◌, take, drop, min, sym, ap, subst, ◌∙◌, append_assoc, Option, Some, None}
 use Rattle.std.proofs.Math.Seq.{take-add, take-append-add, take-append_seam}
-use Rattle.std.proofs.lemmas.List.{take_min, take-append-le}
-use Rattle.std.specs.Io.KnownBytes.{Appends}
+use Rattle.std.proofs.lemmas.List.{append-nil, take_min, take-append-le}
+use Rattle.std.specs.Io.KnownBytes.{Appends, Consumes, Keeps}
 use Rattle.program_io.specs.Ends.{AppendsFront, AppendsBut}
 
 -- a front of a text, and then more of it
@@ -17,6 +17,24 @@ appends_more (Some xs) (Some ys) (Some zs) text i n first more =
 pub appends_rest : (old mid new : Option (List ℕ)) (text : List ℕ) (i n : ℕ) → Appends old mid (take i text) → Appends mid new (take n (take (length text - i) (drop i text))) → Appends old new (take (i + n) text)
 appends_rest old mid new text i n first more =
     appends_more old mid new text i n first (rw (take_all (length text - i) (drop i text) (simp length-drop (omega arith))) at more)
+
+-- nothing of a text
+pub nothing_appended : (old : Option (List ℕ)) → Appends old old []
+nothing_appended None = tt
+nothing_appended (Some xs) = sym (append-nil xs)
+
+-- WHAT A SOURCE GAVE: a text and then more of it, or nothing
+pub consumes_more : (old mid new : Option (List ℕ)) (text more : List ℕ) → Consumes old mid text → Consumes mid new more → Consumes old new (text ++ more)
+consumes_more None mid new text more first second = tt
+consumes_more (Some xs) None new text more first second = absurd first
+consumes_more (Some xs) (Some ys) None text more first second = absurd second
+consumes_more (Some xs) (Some ys) (Some zs) text more first second = first ∙ ap (λ l. text ++ l) second ∙ sym (append_assoc text more zs)
+
+pub consumes_kept : (old mid new : Option (List ℕ)) (text : List ℕ) → Consumes old mid text → Keeps mid new → Consumes old new text
+consumes_kept None mid new text first keeps = tt
+consumes_kept (Some xs) None new text first keeps = absurd first
+consumes_kept (Some xs) (Some ys) None text first keeps = absurd keeps
+consumes_kept (Some xs) (Some ys) (Some zs) text first keeps = first ∙ ap (λ l. text ++ l) (sym keeps)
 
 -- LINES through a buffer
 pub appends_then : (old mid new : Option (List ℕ)) (first more : List ℕ) → Appends old mid first → Appends mid new more → Appends old new (first ++ more)

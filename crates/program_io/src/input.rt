@@ -3,7 +3,7 @@
 ghost use Rattle.std.specs.Prelude.{◌≡◌, ◌<◌, ◌≤◌, length, IfOk, IfSome, OnOk};
 ghost use Rattle.std.specs.Io.KnownBytes.{Consumes, IsAtEnd};
 ghost use Rattle.xs_base.specs.Faults.{NeverFalls, Rose};
-ghost use Rattle.program_io.specs.Ends.{input_limit};
+ghost use Rattle.program_io.specs.Ends.{ConsumesFront, input_limit};
 
 use std::alloc::Global;
 use xs_base::{Bytes, Source};
@@ -23,9 +23,11 @@ pub enum InputFault {
 }
 
 /// All bytes that a source has left, if these are no more than 16777216. O(their number), and at most one piece
-/// of 16384 bytes behind the limit is asked for.
+/// of 16384 bytes behind the limit is asked for. Refused, a front of the bytes is gone.
+#[tactic(auto, using(crate::proofs::EndLemmas::consumes_more, crate::proofs::EndLemmas::consumes_kept))]
 pub fn read_all<S: Source>(alloc: Global, src: &mut S) -> Result<Bytes, InputFault>
     ensures bytes { IfOk result (λ text. Consumes (S.left src.old) (S.left src.new) text) }
+    ensures front { ConsumesFront (S.left src.old) (S.left src.new) }
     ensures end { OnOk result (IsAtEnd (S.left src.new)) }
     ensures short { IfOk result (λ text. length text ≤ input_limit) }
     ensures too_long { result ≡ Err InputFault.TooLong → IfSome (S.left src.old) (λ text. input_limit < length text) }

@@ -40,7 +40,7 @@ module _ (old new : Kept) (d start : ℕ) where
         let store = stands.store in
         let id : c ≡ least_free w.machine.conns =
         least ∙ sym (fresh_free old.daemon.specs) ∙ sym (ap (λ (conns : Connections). least_free conns) store.conns) in
-        let world = λ (k : ℕ). with_start d start (record { machine = with_conn k (fresh (Ring d None 0)) w.machine; guests = w.guests; channels = put nat_cmp k empty_channel w.channels }) in
+        let world = λ (k : ℕ). with_start d start (record { machine = with_conn k (fresh (Ring d None 0)) w.machine; globals = w.globals; guests = w.guests; channels = put nat_cmp k empty_channel w.channels }) in
         let there : StandsFor new (world c) = record {
           store = adds.stands w.machine store;
           guests = ap (put nat_cmp d (fresh_guest start)) stands.guests ∙ sym seated.guests;

@@ -119,7 +119,7 @@ domids_of (e ∷ es) = ap (cons_option (ring_domid e.1)) (domids_of es)
 -- A START
 pub begins : (store : daemon.Kept) (inboxes : List (ℕ × List ℕ)) (new : Kept) → new.daemon ≡ store → new.inboxes ≡ inboxes → new.guests ≡ with_fresh_guests (ring_domids store.specs) [] → new.rings ≡ with_rings store.specs [] → Begins store inboxes new
 begins store inboxes new same_daemon same_inboxes guests rings = record {
-  stands = λ m channels stands of_inboxes of_unsent order. record {
+  stands = λ m globals channels stands of_inboxes of_unsent order. record {
     store = subst (λ kept. daemon.StandsFor kept m) (sym same_daemon) stands;
     guests = ap (λ ds. with_fresh_guests ds []) (ap (filter_map (λ (e : ℕ × Connection). ring_domid e.1.spec)) stands.conns ∙ domids_of store.specs) ∙ sym guests;
     inboxes = of_inboxes ∙ sym same_inboxes;

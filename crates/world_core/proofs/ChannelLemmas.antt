@@ -9,13 +9,11 @@ use Rattle.std.specs.Option.{option_map}
 use Rattle.xs_model.proofs.Maps.{found_map}
 use Rattle.machine_model.specs.Connections.{Connection, Connections}
 use Rattle.machine_model.specs.Machine.{Step, Send}
-use Rattle.machine_model.specs.History.{sent_to}
-use Rattle.world_model.specs.Worlds.{Channel, channel_or_empty, channel_after, channels_after, crowded}
+use Rattle.machine_model.specs.History.{bytes_or_none, sent_to, unsent_after}
+use Rattle.world_model.specs.Worlds.{Channel, channel_or_empty, channel_after, channels_after, unsent_of}
 use Rattle.world_laws.proofs.EntryLemmas.{each_is_itself}
-use Rattle.daemon.specs.Acts.{bytes_or_none}
-use Rattle.daemon.specs.Submits as daemon
 use Rattle.daemon.proofs.KeepsLemmas.{same_there, none_there}
-use Rattle.world_core.specs.Stands.{inboxes_of, unsent_of}
+use Rattle.world_core.specs.Stands.{inboxes_of}
 
 abbrev pub ids : {X : Type 0} → List (ℕ × X) → List ℕ
 ids es = map (λ e. e.0) es
@@ -70,7 +68,7 @@ unsent_by_conns sends channels (k ∷ ks) =
     (unsent_of_found sends k.0 (find nat_cmp k.0 channels) ∙ ap (λ o. bytes_or_none o ++ sent_to k.0 sends) (sym (found_map nat_cmp (λ (ch : Channel). ch.unsent) k.0 channels)))
     (unsent_by_conns sends channels ks)
 
-pub unsent_stepped : (stepped : Step) (channels : List (ℕ × Channel)) → unsent_of (channels_after stepped channels) ≡ daemon.unsent_after stepped (unsent_of channels)
+pub unsent_stepped : (stepped : Step) (channels : List (ℕ × Channel)) → unsent_of (channels_after stepped channels) ≡ unsent_after stepped (unsent_of channels)
 unsent_stepped stepped channels = unsent_by_conns stepped.1 channels stepped.0.conns
 
 -- inboxes stay, where the connections do
@@ -102,8 +100,3 @@ inboxes_lost stepped channels before t lost same sorted =
     ∙ ap (map (λ (e : ℕ × Connection). (e.0, inbox_or_empty (find nat_cmp e.0 channels)))) lost
     ∙ keyed_where (λ k. inbox_or_empty (find nat_cmp k channels)) t before
     ∙ ap (where_key nat_cmp t) (found_by_ids inbox_or_empty before channels same sorted)
-
--- the least connection that has too much to send, on either account
-pub crowded_same : (channels : List (ℕ × Channel)) → crowded channels ≡ daemon.crowded (unsent_of channels)
-crowded_same [] = refl
-crowded_same (e ∷ es) = ap (λ o. cond (nat_lt 16777216 (length e.1.unsent)) (Some e.0) o) (crowded_same es)

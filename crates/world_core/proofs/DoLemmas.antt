@@ -5,21 +5,20 @@ use Rattle.std.proofs.lemmas.Bool.Decides.{nat_tests}
 use Rattle.std.specs.Ordering.{nat_cmp}
 use Rattle.std.specs.FinMap.{find, put}
 use Rattle.xs_model.proofs.Maps.{from_Some, not_Some}
-use Rattle.xs_model.specs.Requests.{built_types}
-use Rattle.machine_model.specs.Machine.{Machine, Item, Asked, built_step}
+use Rattle.machine_model.specs.Machine.{Machine, Item, Asked, built_types, built_step}
+use Rattle.machine_model.specs.History.{unsent_after, crowded}
 use Rattle.world_model.specs.declared.Said.{Said}
 use Rattle.world_model.specs.declared.Said.TheVariants as said
 use Rattle.world_model.specs.Fronts.{Front, Whole, TooLong, Part, front, is_part}
-use Rattle.world_model.specs.Worlds.{World, Served, Told, Event, told, served, server_event, event_with, intake_at, intake_event, intake_ring, do_at, do_event, do_message, do_step, done_unless, dropped, channels_after, crowded}
+use Rattle.world_model.specs.Worlds.{World, Served, Told, Event, told, served, server_event, event_with, intake_at, intake_event, intake_ring, do_at, do_event, do_message, do_step, done_unless, dropped, channels_after, unsent_of}
 use Rattle.daemon.specs.declared.answer.Door.{Door}
 use Rattle.daemon.specs.Keeps as daemon
 use Rattle.daemon.specs.Peers.{IsSoundTable}
-use Rattle.daemon.specs.Submits.{Takes, IsHeld, IsCrowded, unsent_after, crowded as crowded_unsent}
+use Rattle.daemon.specs.Submits.{Takes, IsHeld, IsCrowded}
 use Rattle.world_core.specs.Stands.{Kept, StandsFor, Follows, TakesMemory, Acts, ActsOrNone, Steps}
 use Rattle.world_core.specs.Parts.{IsServed}
 use Rattle.world_core.specs.declared.seats.Seats.{Seats}
 use Rattle.world_core.specs.Seats.{Tables, tables_of, IsSame, Follows as SeatsFollow}
-use Rattle.world_core.proofs.ChannelLemmas.{crowded_same}
 use Rattle.world_core.proofs.StandLemmas.{stepped, left, unsent_then, Follow, taken_stands}
 use Rattle.world_core.proofs.ServedLemmas.{Parts, parts_of}
 use Rattle.world_core.proofs.EventLemmas.{unchanged, connection_acts}
@@ -84,9 +83,8 @@ module _ (old new : Kept) (w : World) (d : ℕ) (at : Served) (n : ℕ) (stands 
   unsent_is : (bytes : List ℕ) → find nat_cmp at.conn old.daemon.unsent ≡ Some bytes → bytes ≡ at.channel.unsent
   unsent_is bytes there = from_Some (sym there ∙ parts.unsent)
 
-  crowd_is : crowded (channels_after (stepped old new w at n (take n at.channel.inbox) stands parts.channel) (left old new w at n (take n at.channel.inbox) stands parts.channel)) ≡ crowded_unsent (unsent_after (built_step w.machine (Asked at.conn (take n at.channel.inbox))) old.daemon.unsent)
-  crowd_is =
-      crowded_same (channels_after (stepped old new w at n (take n at.channel.inbox) stands parts.channel) (left old new w at n (take n at.channel.inbox) stands parts.channel)) ∙ ap crowded_unsent (unsent_then old new w at n (take n at.channel.inbox) stands parts.channel)
+  crowd_is : crowded (unsent_of (channels_after (stepped old new w at n (take n at.channel.inbox) stands parts.channel) (left old new w at n (take n at.channel.inbox) stands parts.channel))) ≡ crowded (unsent_after (built_step w.machine (Asked at.conn (take n at.channel.inbox))) old.daemon.unsent)
+  crowd_is = ap crowded (unsent_then old new w at n (take n at.channel.inbox) stands parts.channel)
 
   pub done : (door : Door) → Takes old.daemon w.machine at.conn (take n at.channel.inbox) door new.daemon → IsSoundTable new.daemon.specs → Follow old new w at n (take n at.channel.inbox) stands parts.channel door → Follows new said.Done (do_message built_types n w at)
   done door takes sound follow =

@@ -58,7 +58,7 @@ module _ (old new : Kept) (d c max : ℕ) (guest : Guest) (inbox : List ℕ) (th
       fed ∙ ap (λ (x : Guest). inbox ++ take n (held x.page.request)) g ∙ ap (λ l. l ++ take n (held at.guest.page.request)) i in
       let mid : Kept = record { daemon = old.daemon; inboxes = old.inboxes; guests = new.guests; rings = old.rings; taken = old.taken } in
       let on_guest : StandsFor mid (with_guest d page w) = guest_changed old mid w d page stands refl refl (guests ∙ ap (λ x. put nat_cmp d x old.guests) guest_now) refl in
-      let both : StandsFor new (with_channel at.conn (record { inbox = at.channel.inbox ++ take n (held at.guest.page.request); unsent = at.channel.unsent }) (with_guest d page w)) =
+      let both : StandsFor new (with_channel at.conn (record { inbox = at.channel.inbox ++ take n (held at.guest.page.request); unsent = at.channel.unsent; rest = at.channel.rest }) (with_guest d page w)) =
       inbox_changed mid new (with_guest d page w) at.conn at.channel (at.channel.inbox ++ take n (held at.guest.page.request)) on_guest parts.channel same_daemon
       (inboxes ∙ ap (λ k. put nat_cmp k inbox_new old.inboxes) (sym conn) ∙ ap (λ l. put nat_cmp at.conn l old.inboxes) inbox_now) refl rings
       in

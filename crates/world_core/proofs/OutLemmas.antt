@@ -10,6 +10,7 @@ use Rattle.std.proofs.Math.Seq.{take-length}
 use Rattle.xs_model.proofs.Maps.{from_Some, not_Some}
 use Rattle.ring_index.specs.Answers.{free_unless_bad}
 use Rattle.ring_index.specs.declared.index.BadIndex.{BadIndex}
+use Rattle.xs_model.specs.Wholes.{rest_after}
 use Rattle.world_model.specs.declared.Said.{Said}
 use Rattle.world_model.specs.declared.Said.TheVariants as said
 use Rattle.world_model.specs.Rings.{Ring, free, is_bad, put_all, with_reply}
@@ -46,14 +47,14 @@ sends old new d c most n into into_new sent pulls long is same_inboxes guests ri
     let mid : Kept = record { daemon = old.daemon; inboxes = old.inboxes; guests = new.guests; rings = old.rings; taken = old.taken } in
     let page : Guest = with_page_of (with_reply (put_all sent at.guest.page.reply)) at.guest in
     let on_guest : StandsFor mid (with_guest d page w) = guest_changed old mid w d page stands refl refl (guests at.guest parts.guest) refl in
-    let both : StandsFor new (with_channel at.conn (record { inbox = at.channel.inbox; unsent = drop n at.channel.unsent }) (with_guest d page w)) =
-    unsent_changed mid new (with_guest d page w) at.conn at.channel (drop n at.channel.unsent) on_guest parts.channel pulls.stands
+    let both : StandsFor new (with_channel at.conn (record { inbox = at.channel.inbox; unsent = drop n at.channel.unsent; rest = rest_after at.channel.rest n at.channel.unsent }) (with_guest d page w)) =
+    unsent_changed mid new (with_guest d page w) at.conn at.channel (drop n at.channel.unsent) (rest_after at.channel.rest n at.channel.unsent) on_guest parts.channel pulls.stands
     (pulls.unsent ∙ ap (λ k. put nat_cmp k (drop n pulls.bytes) old.daemon.unsent) (sym conn) ∙ ap (λ u. put nat_cmp at.conn (drop n u) old.daemon.unsent) bytes) same_inboxes refl rings
     in
     subst (λ k. Follows new (said.Sent n) (sent_some d k w at)) count
     (record {
       says = refl;
-      stands = subst (λ b. StandsFor new (with_channel at.conn (record { inbox = at.channel.inbox; unsent = drop n at.channel.unsent }) (with_guest d (with_page_of (with_reply (put_all b at.guest.page.reply)) at.guest) w))) front both;
+      stands = subst (λ b. StandsFor new (with_channel at.conn (record { inbox = at.channel.inbox; unsent = drop n at.channel.unsent; rest = rest_after at.channel.rest n at.channel.unsent }) (with_guest d (with_page_of (with_reply (put_all b at.guest.page.reply)) at.guest) w))) front both;
       taken = λ k e. cc;
     })
 

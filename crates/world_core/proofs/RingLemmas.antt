@@ -7,7 +7,7 @@ use Rattle.std.specs.FinMap.Entries.{where_key}
 use Rattle.std.proofs.lemmas.Bool.{cases_Bool, and_parts}
 use Rattle.std.proofs.lemmas.Cmp.{nat_cmp_total}
 use Rattle.xs_model.proofs.Maps.{from_Some, not_both, sorted_put, sorted_where, tied}
-use Rattle.xs_model.specs.Requests.{built_types}
+use Rattle.machine_model.specs.Machine.{built_types}
 use Rattle.machine_model.specs.declared.ConnSpec.{ConnSpec}
 use Rattle.machine_model.specs.declared.ConnSpec.TheVariants.{Ring, Socket}
 use Rattle.machine_model.specs.Connections.{Connection, Connections, fresh, is_ring_of, ring_of}

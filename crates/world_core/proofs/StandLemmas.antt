@@ -10,20 +10,21 @@ use Rattle.std.proofs.lemmas.Cmp.{nat_cmp_total}
 use Rattle.xs_model.proofs.Maps.{found_map, sorted_map, sorted_put, sorted_where, not_both}
 use Rattle.machine_model.specs.declared.ConnSpec.TheVariants.{Ring}
 use Rattle.machine_model.specs.Connections.{Connection, Connections, fresh, ring_of}
+use Rattle.machine_model.specs.History.{unsent_after}
 use Rattle.machine_model.specs.Limits.{HasIds}
 use Rattle.machine_model.specs.Machine.{Machine, Asked, Lost, Step, Send, built_step, step_with}
 use Rattle.machine_model.proofs.Lists.{all_weaker}
 use Rattle.conn_table.specs.Tables.{ring_id}
-use Rattle.world_model.specs.Worlds.{World, Guest, Channel, Served, fresh_guest, ring_domid, with_guest, with_channel, without_channel, channel_or_empty, channel_after, channels_after, domid_if_new, with_fresh_guests, without_front, world_after}
+use Rattle.world_model.specs.Worlds.{World, Guest, Channel, Served, fresh_guest, ring_domid, with_guest, with_channel, without_channel, channel_or_empty, channel_after, channels_after, domid_if_new, with_fresh_guests, without_front, world_after, unsent_of}
 use Rattle.world_laws.proofs.ConnLemmas.{ends, OneRingEach, ring_is}
 use Rattle.world_laws.proofs.EntryLemmas.{each_is_found}
 use Rattle.daemon.specs.declared.answer.Door.{Door}
 use Rattle.daemon.specs.declared.answer.Door.TheVariants.{Same, Opened, Closed}
 use Rattle.daemon.specs.Keeps as daemon
 use Rattle.daemon.specs.Peers.{IsSoundTable}
-use Rattle.daemon.specs.Submits.{Takes, Drops, unsent_after}
+use Rattle.daemon.specs.Submits.{Takes, Drops}
 use Rattle.daemon.proofs.KeepsLemmas.{put_map, where_map, put_again, keys_map, same_there, same_rising, conns_ring}
-use Rattle.world_core.specs.Stands.{Kept, StandsFor, inboxes_of, unsent_of}
+use Rattle.world_core.specs.Stands.{Kept, StandsFor, inboxes_of}
 use Rattle.world_core.specs.Seats.{Follows}
 use Rattle.world_core.proofs.ChannelLemmas.{ids, unsent_stepped, inboxes_stepped, inboxes_made, inboxes_lost}
 use Rattle.world_core.proofs.RingLemmas.{HasRings, one_ring, rings_left, new_ends, rings_more, ring_stays}
@@ -50,33 +51,33 @@ guest_changed old new w d g stands same_daemon same_inboxes guests same_rings = 
 }
 
 -- A CHANNEL: one side changes, and the other stays
-unsent_stays : (w : World) (c : ℕ) (channel : Channel) (i : List ℕ) → is_sorted nat_cmp w.channels ≡ true → find nat_cmp c w.channels ≡ Some channel → unsent_of (put nat_cmp c (record { inbox = i; unsent = channel.unsent }) w.channels) ≡ unsent_of w.channels
+unsent_stays : (w : World) (c : ℕ) (channel : Channel) (i : List ℕ) → is_sorted nat_cmp w.channels ≡ true → find nat_cmp c w.channels ≡ Some channel → unsent_of (put nat_cmp c (record { inbox = i; unsent = channel.unsent; rest = channel.rest }) w.channels) ≡ unsent_of w.channels
 unsent_stays w c channel i order there =
-    put_map unsent c (record { inbox = i; unsent = channel.unsent }) w.channels
+    put_map unsent c (record { inbox = i; unsent = channel.unsent; rest = channel.rest }) w.channels
     ∙ put_again c channel.unsent (unsent_of w.channels) (sorted_map nat_cmp unsent w.channels ∙ order) (found_map nat_cmp unsent c w.channels ∙ ap (option_map unsent) there)
 
-inboxes_stay : (w : World) (c : ℕ) (channel : Channel) (u : List ℕ) → is_sorted nat_cmp w.channels ≡ true → find nat_cmp c w.channels ≡ Some channel → inboxes_of (put nat_cmp c (record { inbox = channel.inbox; unsent = u }) w.channels) ≡ inboxes_of w.channels
-inboxes_stay w c channel u order there =
-    put_map inbox c (record { inbox = channel.inbox; unsent = u }) w.channels
+inboxes_stay : (w : World) (c : ℕ) (channel : Channel) (u : List ℕ) (rest : ℕ) → is_sorted nat_cmp w.channels ≡ true → find nat_cmp c w.channels ≡ Some channel → inboxes_of (put nat_cmp c (record { inbox = channel.inbox; unsent = u; rest = rest }) w.channels) ≡ inboxes_of w.channels
+inboxes_stay w c channel u rest order there =
+    put_map inbox c (record { inbox = channel.inbox; unsent = u; rest = rest }) w.channels
     ∙ put_again c channel.inbox (inboxes_of w.channels) (sorted_map nat_cmp inbox w.channels ∙ order) (found_map nat_cmp inbox c w.channels ∙ ap (option_map inbox) there)
 
-pub inbox_changed : (old new : Kept) (w : World) (c : ℕ) (channel : Channel) (i : List ℕ) → StandsFor old w → find nat_cmp c w.channels ≡ Some channel → new.daemon ≡ old.daemon → new.inboxes ≡ put nat_cmp c i old.inboxes → new.guests ≡ old.guests → new.rings ≡ old.rings → StandsFor new (with_channel c (record { inbox = i; unsent = channel.unsent }) w)
+pub inbox_changed : (old new : Kept) (w : World) (c : ℕ) (channel : Channel) (i : List ℕ) → StandsFor old w → find nat_cmp c w.channels ≡ Some channel → new.daemon ≡ old.daemon → new.inboxes ≡ put nat_cmp c i old.inboxes → new.guests ≡ old.guests → new.rings ≡ old.rings → StandsFor new (with_channel c (record { inbox = i; unsent = channel.unsent; rest = channel.rest }) w)
 inbox_changed old new w c channel i stands there same_daemon inboxes same_guests same_rings = record {
   store = subst (λ k. daemon.StandsFor k w.machine) (sym same_daemon) stands.store;
   guests = stands.guests ∙ sym same_guests;
-  inboxes = put_map inbox c (record { inbox = i; unsent = channel.unsent }) w.channels ∙ ap (put nat_cmp c i) stands.inboxes ∙ sym inboxes;
+  inboxes = put_map inbox c (record { inbox = i; unsent = channel.unsent; rest = channel.rest }) w.channels ∙ ap (put nat_cmp c i) stands.inboxes ∙ sym inboxes;
   unsent = unsent_stays w c channel i stands.order there ∙ stands.unsent ∙ ap (λ (k : daemon.Kept). k.unsent) (sym same_daemon);
-  order = sorted_put nat_cmp nat_cmp_total c (record { inbox = i; unsent = channel.unsent }) w.channels stands.order;
+  order = sorted_put nat_cmp nat_cmp_total c (record { inbox = i; unsent = channel.unsent; rest = channel.rest }) w.channels stands.order;
   rings = kept_rings old new w stands same_rings;
 }
 
-pub unsent_changed : (old new : Kept) (w : World) (c : ℕ) (channel : Channel) (u : List ℕ) → StandsFor old w → find nat_cmp c w.channels ≡ Some channel → ((m : Machine) → daemon.StandsFor old.daemon m → daemon.StandsFor new.daemon m) → new.daemon.unsent ≡ put nat_cmp c u old.daemon.unsent → new.inboxes ≡ old.inboxes → new.guests ≡ old.guests → new.rings ≡ old.rings → StandsFor new (with_channel c (record { inbox = channel.inbox; unsent = u }) w)
-unsent_changed old new w c channel u stands there store bytes same_inboxes same_guests same_rings = record {
+pub unsent_changed : (old new : Kept) (w : World) (c : ℕ) (channel : Channel) (u : List ℕ) (rest : ℕ) → StandsFor old w → find nat_cmp c w.channels ≡ Some channel → ((m : Machine) → daemon.StandsFor old.daemon m → daemon.StandsFor new.daemon m) → new.daemon.unsent ≡ put nat_cmp c u old.daemon.unsent → new.inboxes ≡ old.inboxes → new.guests ≡ old.guests → new.rings ≡ old.rings → StandsFor new (with_channel c (record { inbox = channel.inbox; unsent = u; rest = rest }) w)
+unsent_changed old new w c channel u rest stands there store bytes same_inboxes same_guests same_rings = record {
   store = store w.machine stands.store;
   guests = stands.guests ∙ sym same_guests;
-  inboxes = inboxes_stay w c channel u stands.order there ∙ stands.inboxes ∙ sym same_inboxes;
-  unsent = put_map unsent c (record { inbox = channel.inbox; unsent = u }) w.channels ∙ ap (put nat_cmp c u) stands.unsent ∙ sym bytes;
-  order = sorted_put nat_cmp nat_cmp_total c (record { inbox = channel.inbox; unsent = u }) w.channels stands.order;
+  inboxes = inboxes_stay w c channel u rest stands.order there ∙ stands.inboxes ∙ sym same_inboxes;
+  unsent = put_map unsent c (record { inbox = channel.inbox; unsent = u; rest = rest }) w.channels ∙ ap (put nat_cmp c u) stands.unsent ∙ sym bytes;
+  order = sorted_put nat_cmp nat_cmp_total c (record { inbox = channel.inbox; unsent = u; rest = rest }) w.channels stands.order;
   rings = kept_rings old new w stands same_rings;
 }
 
@@ -99,7 +100,7 @@ module _ (kept : daemon.Kept) (m : Machine) (store : daemon.StandsFor kept m) wh
   rings_but_one c rings has = rings_left m.conns in_order rings_differ c rings has
 
 -- A LOST CONNECTION
-pub lost : (old new : Kept) (w : World) (c d : ℕ) (g : Guest) → StandsFor old w → Drops old.daemon c new.daemon → new.inboxes ≡ where_key nat_cmp (λ k. not (c == k)) old.inboxes → new.guests ≡ put nat_cmp d g old.guests → new.rings ≡ old.rings → StandsFor new (record { machine = (step_with [] w.machine (Lost c)).0; guests = put nat_cmp d g w.guests; channels = without_channel c w.channels })
+pub lost : (old new : Kept) (w : World) (c d : ℕ) (g : Guest) → StandsFor old w → Drops old.daemon c new.daemon → new.inboxes ≡ where_key nat_cmp (λ k. not (c == k)) old.inboxes → new.guests ≡ put nat_cmp d g old.guests → new.rings ≡ old.rings → StandsFor new (record { machine = (step_with [] w.machine (Lost c)).0; globals = w.globals; guests = put nat_cmp d g w.guests; channels = without_channel c w.channels })
 lost old new w c d g stands drops inboxes guests same_rings = record {
   store = drops.stands w.machine stands.store;
   guests = ap (put nat_cmp d g) stands.guests ∙ sym guests;
@@ -193,7 +194,7 @@ module _ (old new : Kept) (w : World) (at : Served) (n : ℕ) (message : List �
 
   inboxes_left : inboxes_of left ≡ skipped
   inboxes_left =
-      put_map inbox at.conn (record { inbox = drop n at.channel.inbox; unsent = at.channel.unsent }) w.channels
+      put_map inbox at.conn (record { inbox = drop n at.channel.inbox; unsent = at.channel.unsent; rest = at.channel.rest }) w.channels
       ∙ ap (put nat_cmp at.conn (drop n at.channel.inbox)) stands.inboxes
 
   ids_left : ids before ≡ ids left
@@ -201,7 +202,7 @@ module _ (old new : Kept) (w : World) (at : Served) (n : ℕ) (message : List �
       ids_of_unsent old.daemon w.machine stands.store ∙ sym (ap (λ (es : List (ℕ × List ℕ)). ids es) unsent_left) ∙ keys_map unsent left
 
   order_left : is_sorted nat_cmp left ≡ true
-  order_left = sorted_put nat_cmp nat_cmp_total at.conn (record { inbox = drop n at.channel.inbox; unsent = at.channel.unsent }) w.channels stands.order
+  order_left = sorted_put nat_cmp nat_cmp_total at.conn (record { inbox = drop n at.channel.inbox; unsent = at.channel.unsent; rest = at.channel.rest }) w.channels stands.order
 
   pub unsent_then : unsent_of (channels_after stepped left) ≡ unsent_after stepped old.daemon.unsent
   unsent_then = unsent_stepped stepped left ∙ ap (unsent_after stepped) unsent_left

@@ -2,12 +2,13 @@
 use Rattle.std.specs.Prelude.{◌≡◌, ◌⊎◌, ℕ, ◌≤◌, true, List, [], map, filter_map, Some, ⊤}
 use Rattle.std.specs.Ordering.{nat_cmp}
 use Rattle.std.specs.FinMap.{find, is_sorted}
-use Rattle.xs_model.specs.Requests.{built_types}
+use Rattle.machine_model.specs.Machine.{built_types}
 use Rattle.machine_model.specs.Connections.{ring_of}
+use Rattle.machine_model.specs.declared.Globals.{Globals}
 use Rattle.machine_model.specs.Machine.{Machine}
 use Rattle.world_model.specs.declared.Said.{Said}
 use Rattle.world_model.specs.declared.Said.TheVariants.{NoMemory, Got}
-use Rattle.world_model.specs.Worlds.{World, Guest, Channel, Served, served, Event, Send, Put, Intake, Do, Out, Take, Poke, ShowPage, Handover, Told, event_with, ring_domid, with_fresh_guests, add_domain}
+use Rattle.world_model.specs.Worlds.{World, Guest, Channel, Served, served, Event, Send, Put, Intake, Do, Out, Take, Poke, ShowPage, Handover, Told, event_with, ring_domid, with_fresh_guests, unsent_of, add_domain}
 use Rattle.daemon.specs.Keeps as daemon
 
 -- the store with what is unsent, the inboxes by connection, the guests by domid, the ring connection that each domain
@@ -19,14 +20,12 @@ pub record Kept : Type 0 where
   pub rings : List (ℕ × ℕ)
   pub taken : List ℕ
 
--- the two sides of the channels, by connection
+-- what was taken from each connection and not answered
 abbrev pub inboxes_of : List (ℕ × Channel) → List (ℕ × List ℕ)
 inboxes_of channels = map (λ e. (e.0, e.1.inbox)) channels
 
-abbrev pub unsent_of : List (ℕ × Channel) → List (ℕ × List ℕ)
-unsent_of channels = map (λ e. (e.0, e.1.unsent)) channels
-
--- it stands for a world whose store is one that the daemon stands for, and whose guests and channels it has
+-- It stands for a world whose store is one that the daemon stands for, and whose guests and channels it has. Contracts do
+-- not see yet how many of the unsent bytes are the rest of a message, and there are no numbers of the whole store.
 pub record StandsFor (kept : Kept) (w : World) : Type 0 where
   pub store : daemon.StandsFor kept.daemon w.machine
   pub guests : w.guests ≡ kept.guests
@@ -37,16 +36,17 @@ pub record StandsFor (kept : Kept) (w : World) : Type 0 where
   pub rings : (d c : ℕ) → ring_of d w.machine.conns ≡ Some c → find nat_cmp d kept.rings ≡ Some c
 
 -- A START: the store and its channels, and a fresh page for each ring connection
-abbrev pub begun : Machine → List (ℕ × Channel) → World
-begun m channels = record {
+abbrev pub begun : Machine → Globals → List (ℕ × Channel) → World
+begun m globals channels = record {
   machine = m;
+  globals = globals;
   guests = with_fresh_guests (filter_map (λ e. ring_domid e.1.spec) m.conns) [];
   channels = channels;
 }
 
 pub record Begins (store : daemon.Kept) (inboxes : List (ℕ × List ℕ)) (new : Kept) : Type 0 where
-  pub stands : (m : Machine) (channels : List (ℕ × Channel)) → daemon.StandsFor store m
-      → inboxes_of channels ≡ inboxes → unsent_of channels ≡ store.unsent → is_sorted nat_cmp channels ≡ true → StandsFor new (begun m channels)
+  pub stands : (m : Machine) (globals : Globals) (channels : List (ℕ × Channel)) → daemon.StandsFor store m
+      → inboxes_of channels ≡ inboxes → unsent_of channels ≡ store.unsent → is_sorted nat_cmp channels ≡ true → StandsFor new (begun m globals channels)
 
 -- A DOMAIN THAT IS THERE FROM THE START
 pub record AddsDomain (old : Kept) (d start : ℕ) (new : Kept) : Type 0 where

@@ -2,3 +2,4 @@ pub mod PlayLemmas
 pub mod StartLemmas
 pub mod FormLemmas
 pub mod DriveLemmas
+pub mod SourceLemmas

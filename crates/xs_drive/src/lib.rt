@@ -14,7 +14,7 @@ ghost use Rattle.std.specs.Prelude.{◌≡◌, ◌⊎◌, ◌↔◌, ◌<◌, �
 ghost use Rattle.std.specs.Io.KnownBytes.{Appends, Keeps, IsAtEnd};
 ghost use Rattle.xs_base.specs.Faults.{NeverFalls, Rose};
 ghost use Rattle.world_model.specs.declared.LineKind.{LineKind};
-ghost use Rattle.program_io.specs.Ends.{AppendsFront, input_limit};
+ghost use Rattle.program_io.specs.Ends.{AppendsFront, ConsumesFront, input_limit};
 ghost use Rattle.xs_drive.specs.Ends.{HidesHandovers, IsFaulty, IsPlayable, IsUnbuilt, is_run, transcript};
 ghost use Rattle.xs_drive.specs.Statuses.{is_before_run};
 
@@ -34,6 +34,7 @@ use xs_base::{Sink, Source, Vault};
 /// alone: the transcript goes through one buffer.
 ///
 /// Where a source or a sink does not tell its bytes, nothing is said of them.
+#[tactic(auto, using(crate::proofs::SourceLemmas::untouched))]
 pub fn drive<S: Source, K: Sink, V: Vault>(
     alloc: Global,
     words: &[String],
@@ -56,6 +57,10 @@ pub fn drive<S: Source, K: Sink, V: Vault>(
     ensures unbuilt { result ≡ Status.Unbuilt → IfSome (S.left src.old) IsUnbuilt }
     ensures write_fault { result ≡ Status.WriteFault → Rose (K.faults out.old) (K.faults out.new) }
     ensures write_fault_of_script { result ≡ Status.WriteFault → IfSome (S.left src.old) IsPlayable }
+
+    // What is left of the source: all at Usage, and else what stands behind a front.
+    ensures usage_left { result ≡ Status.Usage → src.new ≡ src.old }
+    ensures rest { ConsumesFront (S.left src.old) (S.left src.new) }
 
     // What was written, whatever the status: a front of the transcript, and nothing before the run began.
     ensures front { IfSome (S.left src.old) (λ text.

@@ -4,14 +4,14 @@ ghost use Rattle.std.specs.Prelude.{◌≡◌, List, [], map, OnOk, OnErr, IfOk}
 ghost use Rattle.std.specs.Io.KnownBytes.{Appends};
 ghost use Rattle.std.specs.List.{AllByRecursion};
 ghost use Rattle.xs_base.specs.Faults.{NeverFalls, Rose};
-ghost use Rattle.xs_model.specs.Requests.{built_types};
+ghost use Rattle.machine_model.specs.Machine.{built_types};
 ghost use Rattle.world_model.specs.Worlds.{new_world};
 ghost use Rattle.world_model.specs.Transcripts.{script_lines, with_domains};
 ghost use Rattle.guest_script.specs.Views.{domain_view, event_view, script_view};
 ghost use Rattle.guest_script.specs.Drafts.{IsSoundDomain};
 ghost use Rattle.program_io.specs.Ends.{AppendsFront};
 ghost use Rattle.world_core.specs.Stands.{IsBuilt, StandsFor};
-ghost use Rattle.xs_drive.specs.Play.{Prints, PrintsFront};
+ghost use Rattle.xs_drive.specs.Play.{Prints};
 ghost use Rattle.xs_drive.specs.declared.play.PlayFault.TheVariants.{NoMemory as no_memory, WriteFault as write_fault};
 
 use daemon::Daemon;
@@ -49,8 +49,8 @@ impl From<Failed> for PlayFault {
 }
 
 /// Plays the events of a script in the world of its head lines, and writes the line of each, through one buffer whose
-/// size does not grow with their number. Refused, a front of the lines was written: where no memory was found, the
-/// lines of all events so far, as far as the sink took them.
+/// size does not grow with their number. Refused, a front of the lines was written. Where no memory was found, the lines
+/// so far are still written as far as the sink takes them, which no clause promises.
 pub fn play<K: Sink, V: Vault>(
     alloc: Global,
     script: &Script,
@@ -99,7 +99,7 @@ fn new_world(alloc: Global) -> Result<World, NoMemory>
     World::start(alloc, Daemon::new(alloc)?, ins)
 }
 
-/// Plays one event, and appends its line. Refused, a front of the line was appended.
+/// Plays one event, and appends its line. Refused, the lines are as before.
 fn print_step<V: Vault>(
     world: &mut World,
     event: &Event,
@@ -108,7 +108,7 @@ fn print_step<V: Vault>(
 ) -> Result<(), NoMemory>
     requires { IsBuilt (event_view event.now) }
     ensures ok { OnOk result (Prints world.old (event_view event.now) lines.old world.new lines.new) }
-    ensures err { OnErr result (PrintsFront world.old (event_view event.now) lines.old lines.new) }
+    ensures err { OnErr result (lines.new ≡ lines.old) }
     ensures vault { vault.new ≡ vault.old }
 {
     match world.step(event, vault) {

@@ -1,10 +1,10 @@
-use Rattle.std.proofs.Common.{sym, subst, ◌∙◌, arith}
+use Rattle.std.proofs.Common.{◌≡◌, sym, subst, ◌∙◌, arith}
 use Rattle.guest_script.specs.declared.event.Event.{Event}
 use Rattle.guest_script.specs.Views.{event_view}
 use Rattle.world_core.specs.Stands.{IsBuilt}
 use Rattle.program_io.proofs.EndLemmas.{front_then, but_then, all_then}
-use Rattle.xs_drive.specs.Play.{Prints, PrintsFront}
-use Rattle.xs_drive.proofs.PlayLemmas.{built_at, one_more, stopped, all_played, of_is_err, of_is_ok}
+use Rattle.xs_drive.specs.Play.{Prints}
+use Rattle.xs_drive.proofs.PlayLemmas.{built_at, one_more, all_played, of_is_err, of_is_ok}
 use Rattle.xs_drive.proofs.play.play.Goals as goal
 
 pub print_step-requires : goal.print_step-requires
@@ -15,11 +15,8 @@ print_step-requires g c =
 
 pub returns-then-is_err-clause-front : goal.returns-then-is_err-clause-front
 returns-then-is_err-clause-front g c =
-    let is = rw c.as_slice-event-items.ensures at c.event-item.is in
-    let lt = rw c.as_slice-event-items.ensures at c.loop-event-test.true in
-    let front = of_is_err c.print_step.result c.is_err.result (PrintsFront c.loop-event.world (event_view c.event-item.result) c.loop-event.lines c.print_step.new.lines) c.is_err.ensures.value c.if-is_err.true c.print_step.ensures.err in
-    let stops = stopped c.loop-event.world c.loop-event.lines c.print_step.new.lines c.args.script.now.events c.loop-event.event-index c.event-item.result _ _ _ lt is c.loop-event.invariant.left front in
-    front_then _ _ _ _ c.print_step.new.lines stops.rest stops.all (rw c.as_slice.ensures at c.write_all-written.ensures.front)
+    let same = of_is_err c.print_step.result c.is_err.result (c.print_step.new.lines ≡ c.loop-event.lines) c.is_err.ensures.value c.if-is_err.true c.print_step.ensures.err in
+    front_then _ _ _ _ c.loop-event.lines _ c.loop-event.invariant.left.all (rw (c.as_slice.ensures, same) at c.write_all-written.ensures.front)
 
 pub returns-in_err-write_if_many-clause-front : goal.returns-in_err-write_if_many-clause-front
 returns-in_err-write_if_many-clause-front g c =
