@@ -1,3 +1,4 @@
 pub mod Steps
+pub mod UnreadLemmas
 pub mod Answered
 pub mod Written

@@ -1,1 +1,3 @@
 pub mod RecordView
+pub mod Unread
+pub mod ReaderView

@@ -1,8 +1,8 @@
-//! Reading a stream.
+//! The record of a body that was tested.
 ghost use Rattle.std.specs.Prelude.{◌≡◌, ◌+◌, ◌*◌, ◌^◌, ◌<◌, ◌≤◌, length, drop, IfOk, OnOk, OnErr};
 ghost use Rattle.stream_model.specs.Fields.{u32_at, part};
 ghost use Rattle.stream_model.specs.Record.{is_end};
-ghost use Rattle.stream_model.specs.Spelling.{IsStream, whole_size};
+ghost use Rattle.stream_model.specs.Spelling.{IsStream, whole_size, count_in};
 ghost use Rattle.stream_model.specs.Reading.{type_with, fixed_part, whole_need, need_in, entry_in, entries_in, record_in, body_record, typed_record, record_at};
 ghost use Rattle.mig_records.specs.RecordView.{record_of, records_of, Reads};
 
@@ -12,52 +12,6 @@ use crate::record::{RawPerms, Record};
 use std::alloc::Global;
 use stream_model::{RawPerm, RecordType, StreamFault};
 use xs_base::{Bytes, NoMemory};
-
-fn type_with(number: u32) -> Option<RecordType>
-    ensures { result ≡ type_with number }
-{
-    match number {
-        0 => Some(RecordType::End),
-        1 => Some(RecordType::Global),
-        2 => Some(RecordType::Connection),
-        3 => Some(RecordType::Watch),
-        4 => Some(RecordType::Transaction),
-        5 => Some(RecordType::Node),
-        _ => None,
-    }
-}
-
-fn fixed_part(kind: RecordType) -> usize
-    ensures { result ≡ fixed_part kind }
-{
-    match kind {
-        RecordType::End => 0,
-        RecordType::Global | RecordType::Watch | RecordType::Transaction => 8,
-        RecordType::Connection => 28,
-        RecordType::Node => 16,
-    }
-}
-
-// How many bytes the fields of a body ask for; where the fixed part is not there, that part.
-fn need_in(kind: RecordType, body: &[u8]) -> u64
-    ensures { result ≡ need_in kind body.now }
-{
-    let fixed = fixed_part(kind);
-    if body.len() < fixed {
-        return fixed as u64;
-    }
-    match kind {
-        RecordType::End => 0,
-        RecordType::Global | RecordType::Transaction => 8,
-        RecordType::Connection => 28 + u64::from(u32_at(body, 16)) + u64::from(u32_at(body, 24)),
-        RecordType::Watch => 8 + u64::from(u16_at(body, 4)) + u64::from(u16_at(body, 6)),
-        RecordType::Node => {
-            16 + 4 * u64::from(u16_at(body, 14))
-                + u64::from(u16_at(body, 8))
-                + u64::from(u16_at(body, 10))
-        }
-    }
-}
 
 fn entry_in(bytes: &[u8]) -> RawPerm
     requires { 4 ≤ length bytes.now }
@@ -134,8 +88,26 @@ fn node_in(alloc: Global, body: &[u8]) -> Result<Record, NoMemory>
     })
 }
 
+// The count of a transaction, by the bytes behind its two ids.
+fn count_in(more: &[u8]) -> u32
+    ensures { result ≡ count_in more.now }
+{
+    if more.len() < 4 { 0 } else { u32_at(more, 0) }
+}
+
+fn transaction_in(body: &[u8]) -> Record
+    requires { 8 ≤ length body.now }
+    ensures { record_of result ≡ record_in RecordType.Transaction body.now }
+{
+    Record::Transaction {
+        conn: u32_at(body, 0),
+        tx: u32_at(body, 4),
+        count: count_in(behind(body, 8)),
+    }
+}
+
 // The record of a body that has what its fields ask for.
-fn record_in(alloc: Global, kind: RecordType, body: &[u8]) -> Result<Record, NoMemory>
+pub(crate) fn record_in(alloc: Global, kind: RecordType, body: &[u8]) -> Result<Record, NoMemory>
     requires { need_in kind body.now ≤ length body.now }
     ensures { IfOk result (λ found. record_of found ≡ record_in kind body.now) }
 {
@@ -147,61 +119,7 @@ fn record_in(alloc: Global, kind: RecordType, body: &[u8]) -> Result<Record, NoM
         }),
         RecordType::Connection => connection_in(alloc, body),
         RecordType::Watch => watch_in(alloc, body),
-        RecordType::Transaction => Ok(Record::Transaction {
-            conn: u32_at(body, 0),
-            tx: u32_at(body, 4),
-        }),
+        RecordType::Transaction => Ok(transaction_in(body)),
         RecordType::Node => node_in(alloc, body),
-    }
-}
-
-// A body with what its fields ask for, and up to seven bytes more.
-fn body_record(
-    alloc: Global,
-    at: usize,
-    kind: RecordType,
-    body: &[u8],
-) -> Result<Record, StreamFault>
-    requires { length body.now < 2 ^ 32 }
-    ensures { Reads record_of result (body_record at kind (need_in kind body.now) body.now) }
-{
-    let need = need_in(kind, body);
-    let len = body.len() as u32;
-    if u64::from(len) < need || need + 7 < u64::from(len) {
-        return Err(StreamFault::BadLength { at, need, len });
-    }
-    Ok(record_in(alloc, kind, body)?)
-}
-
-// A record of that type, whose type and length are there.
-fn typed_record(
-    alloc: Global,
-    at: usize,
-    kind: RecordType,
-    bytes: &[u8],
-) -> Result<Record, StreamFault>
-    requires { 8 ≤ length bytes.now }
-    ensures read { Reads record_of result (typed_record at (Some kind) bytes.now) }
-    ensures whole { OnOk result (whole_size (u32_at 4 bytes.now) ≤ length bytes.now) }
-{
-    let len = u32_at(bytes, 4);
-    if bytes.len() < whole_size(len) {
-        return Err(StreamFault::Cut { at });
-    }
-    body_record(alloc, at, kind, part(bytes, 8, len as usize))
-}
-
-// The record that the bytes begin with, which stand from the place `at` on.
-pub(crate) fn record_at(alloc: Global, at: usize, bytes: &[u8]) -> Result<Record, StreamFault>
-    ensures read { Reads record_of result (record_at at bytes.now) }
-    ensures whole { OnOk result (whole_size (u32_at 4 bytes.now) ≤ length bytes.now) }
-{
-    if bytes.len() < 8 {
-        return Err(StreamFault::Cut { at });
-    }
-    let number = u32_at(bytes, 0);
-    match type_with(number) {
-        None => Err(StreamFault::UnknownType { at, kind: number }),
-        Some(kind) => typed_record(alloc, at, kind, bytes),
     }
 }

@@ -31,10 +31,12 @@ pub enum Record {
         wpath: Bytes,
         token: Bytes,
     },
-    /// TRANSACTION_DATA: an open transaction of a connection.
+    /// TRANSACTION_DATA: an open transaction of a connection, and how many commands it has run; 0 where the record
+    /// does not say so.
     Transaction {
         conn: u32,
         tx: u32,
+        count: u32,
     },
     /// NODE_DATA: a node of the store where `conn` is 0, else what a transaction did at a path.
     Node {

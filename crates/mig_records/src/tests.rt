@@ -74,6 +74,19 @@ fn writes_a_worked_stream(rt: HostRuntime) -> Result<(), Fail> {
 }
 
 #[test]
+fn hands_on_one_record_at_a_time(rt: HostRuntime) -> Result<(), Fail> {
+    let alloc = rt.alloc();
+    let mut reader = Reader::new(&EMPTY_STORE)?;
+    for place in [16, 32, 64] {
+        assert_eq!(rt; reader.place(), place);
+        assert!(rt; reader.next(alloc)?.is_some());
+    }
+    assert!(rt; reader.next(alloc)?.is_none());
+    assert_eq!(rt; reader.place(), 72);
+    Ok(())
+}
+
+#[test]
 fn lets_surplus_and_padding_pass(rt: HostRuntime) -> Result<(), Fail> {
     let alloc = rt.alloc();
     // As it is; a node's length with its padding; nonzero padding; END with a surplus of seven bytes.

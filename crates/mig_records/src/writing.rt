@@ -3,7 +3,7 @@ ghost use Rattle.std.specs.Prelude.{◌≡◌, ◌+◌, ◌*◌, ◌^◌, ◌<�
 ghost use Rattle.std.specs.List.{concat, flat_map, AllByRecursion};
 ghost use Rattle.stream_model.specs.Fields.{u16_bytes, u32_bytes, i32_bytes};
 ghost use Rattle.stream_model.specs.Record.{type_of, connection_data, watch_data, node_data};
-ghost use Rattle.stream_model.specs.Spelling.{header, type_number, entry_bytes, fields, need, canonical_record, NumbersFit, LengthsFit, canonical, EndsOnce, IsStream};
+ghost use Rattle.stream_model.specs.Spelling.{header, type_number, entry_bytes, fields, need, written_behind, written_len, canonical_record, NumbersFit, LengthsFit, canonical, EndsOnce, IsStream};
 ghost use Rattle.mig_records.specs.RecordView.{record_of, records_of};
 
 use crate::places::whole_size;
@@ -173,7 +173,9 @@ fn push_fields(out: &mut Bytes, item: &Record) -> Result<(), NoMemory>
             unsent,
         } => push_connection(out, *conn, *kind, spec, *rest, inbox, unsent),
         Record::Watch { conn, wpath, token } => push_watch(out, *conn, wpath, token),
-        Record::Transaction { conn, tx } => {
+        Record::Transaction { conn, tx, count } => {
+            // It is read here for its bound alone, and written behind the fields.
+            let _count = *count;
             push_u32(out, *conn)?;
             push_u32(out, *tx)
         }
@@ -188,17 +190,39 @@ fn push_fields(out: &mut Bytes, item: &Record) -> Result<(), NoMemory>
     }
 }
 
+// How many bytes the body has: what its fields ask for, and the count of a transaction.
+fn written_len(item: &Record) -> u32
+    requires { LengthsFit (record_of item.now) }
+    ensures { result ≡ written_len (record_of item.now) }
+{
+    match item {
+        Record::Transaction { .. } => 12,
+        _ => need(item),
+    }
+}
+
+// What is written behind the fields: the count of a transaction.
+fn push_behind(out: &mut Bytes, item: &Record) -> Result<(), NoMemory>
+    ensures { OnOk result (out.new ≡ out.old ++ written_behind (record_of item.now)) }
+{
+    match item {
+        Record::Transaction { count, .. } => push_u32(out, *count),
+        _ => Ok(()),
+    }
+}
+
 // A record without surplus, its padding zero.
 fn push_record(out: &mut Bytes, item: &Record) -> Result<(), NoMemory>
     requires { LengthsFit (record_of item.now) }
     ensures text { OnOk result (out.new ≡ out.old ++ canonical_record (record_of item.now)) }
     ensures fit { OnOk result (NumbersFit (record_of item.now)) }
 {
-    let need = need(item);
+    let len = written_len(item);
     push_u32(out, type_number(item))?;
-    push_u32(out, need)?;
+    push_u32(out, len)?;
     push_fields(out, item)?;
-    push_zeros(out, whole_size(need) - (8 + need as usize))
+    push_behind(out, item)?;
+    push_zeros(out, whole_size(len) - (8 + len as usize))
 }
 
 // At most eight zero bytes.

@@ -1,2 +1,3 @@
 pub mod ShowLemmas
 pub mod ViewLemmas
+pub mod DigitLemmas

@@ -1,7 +1,7 @@
 -- What an input shows, by what was read of it.
 use Rattle.std.proofs.Common.{◌≡◌, ℕ, ◌≤◌, List, ◌++◌, length, Option, Some, None, refl, sym, ap, subst, ◌∙◌}
 use Rattle.std.specs.Prelude.{IfSome, IsSome, Result, Ok, Err}
-use Rattle.std.specs.Io.KnownBytes.{Consumes, IsAtEnd}
+use Rattle.std.specs.Io.KnownBytes.{Appends, Consumes, IsAtEnd}
 use Rattle.std.proofs.lemmas.List.{append-nil}
 use Rattle.stream_model.specs.Record.{StreamRecord}
 use Rattle.stream_model.specs.Spelling.{IsStream}
@@ -111,3 +111,19 @@ pub told_front : (words : List (List ℕ)) (before after : Option (List ℕ)) (r
 told_front words before after read records old new r stream front =
     of_source (λ input. (lines : List ℕ) → Shows words input lines → AppendsFront old new lines) before after r.input r.taken r.ended
     (front_of_shown words r.input read records old new r.gives stream front)
+
+shown : (words : List (List ℕ)) (input read : List ℕ) (records : List StreamRecord) → Gives words input read → IsStream read records → Shows words input (view_text read records)
+shown words input read records gives stream = record { bytes = read; gives = gives; records = records; stream = stream; text = refl }
+
+pub told_done : (words : List (List ℕ)) (before after : Option (List ℕ)) (read : List ℕ) (records : List StreamRecord) (old new : Option (List ℕ)) → IsRead words before after read → IsStream read records
+    → Appends old new (view_text read records) → IfSome before (λ input. (lines : List ℕ) × Shows words input lines × Appends old new lines)
+told_done words before after read records old new r stream appends =
+    of_source (λ input. (lines : List ℕ) × Shows words input lines × Appends old new lines) before after r.input r.taken r.ended
+    (view_text read records, shown words r.input read records r.gives stream, appends)
+
+-- what is said of inputs without lines is said of another input
+pub told_some : (words : List (List ℕ)) (before after : Option (List ℕ)) (read : List ℕ) (records : List StreamRecord) (P : Type 0) → IsRead words before after read → IsStream read records
+    → IfSome before (λ input. ((lines : List ℕ) → Shows words input lines → ⊥) → P)
+told_some words before after read records P r stream =
+    of_source (λ input. ((lines : List ℕ) → Shows words input lines → ⊥) → P) before after r.input r.taken r.ended
+    (λ none. absurd (none (view_text read records) (shown words r.input read records r.gives stream)))

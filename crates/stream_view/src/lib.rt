@@ -8,7 +8,6 @@ mod form;
 mod lines;
 mod show;
 mod status;
-mod stream;
 #[cfg(test)]
 mod tests;
 
@@ -22,7 +21,7 @@ ghost use Rattle.stream_view.specs.Statuses.{is_before_lines};
 
 use crate::form::{FormFault, bytes_given, form_of};
 use crate::show::{ShowFault, write_lines};
-use crate::stream::{StreamErr, records_of};
+use mig_records::Reader;
 use program_io::{InputFault, read_all};
 pub use status::ViewStatus;
 use std::alloc::Global;
@@ -60,6 +59,10 @@ pub fn view<S: Source, K: Sink>(
         → AppendsFront (K.written out.old) (K.written out.new) lines) }
     ensures nothing { IsTrue (is_before_lines result) → Keeps (K.written out.old) (K.written out.new) }
 
+    // Where the input has no lines nothing was written, whatever the status.
+    ensures no_lines { IfSome (S.left src.old) (λ input. ((lines : List ℕ) → Shows (map string_bytes words.now) input lines → ⊥)
+        → Keeps (K.written out.old) (K.written out.new)) }
+
     // A stream, and ends that did not fail, give Done or want of memory.
     ensures complete { IsSome (S.left src.old) → IfSome (S.left src.old) (λ input. (lines : List ℕ)
         × Shows (map string_bytes words.now) input lines) → (Rose (S.faults src.old) (S.faults src.new) → ⊥)
@@ -82,12 +85,11 @@ pub fn view<S: Source, K: Sink>(
         Err(FormFault::NotSpelled) => return ViewStatus::Hex,
         Err(FormFault::NoMemory) => return ViewStatus::NoMemory,
     };
-    let records = match records_of(alloc, bytes.as_slice()) {
-        Ok(records) => records,
-        Err(StreamErr::Fault(fault)) => return ViewStatus::Stream(fault),
-        Err(StreamErr::NoMemory) => return ViewStatus::NoMemory,
+    let reader = match Reader::new(bytes.as_slice()) {
+        Ok(reader) => reader,
+        Err(fault) => return ViewStatus::Stream(fault),
     };
-    match write_lines(alloc, bytes.as_slice(), &records, out) {
+    match write_lines(alloc, reader, out) {
         Ok(()) => ViewStatus::Done,
         Err(ShowFault::WriteFault) => ViewStatus::WriteFault,
         Err(ShowFault::NoMemory) => ViewStatus::NoMemory,

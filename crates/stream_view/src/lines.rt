@@ -135,7 +135,7 @@ fn push_fields(line: &mut Bytes, item: &Record) -> Result<(), NoMemory>
             push_bytes(line, b" wpath ", wpath.as_slice())?;
             push_bytes(line, b" token ", token.as_slice())
         }
-        Record::Transaction { conn, tx } => {
+        Record::Transaction { conn, tx, .. } => {
             push_number(line, b"", u64::from(*conn))?;
             push_number(line, b" ", u64::from(*tx))
         }

@@ -1,40 +1,57 @@
-use Rattle.std.proofs.Common.{Err, ap, map, string_bytes, sym, ◌∙◌}
-use Rattle.mig_records.specs.RecordView.{records_of}
-use Rattle.stream_view.proofs.ViewLemmas.{is_read, told_fault, told_no_lines, told_lines, told_front}
+use Rattle.std.proofs.Common.{map, string_bytes}
+use Rattle.stream_view.proofs.ViewLemmas.{is_read, told_fault, told_no_lines, told_lines, told_front, told_done, told_some}
 use Rattle.stream_view.proofs.view.Goals as goal
 
-pub returns-in-Err-Fault-clause-stream : goal.returns-in-Err-Fault-clause-stream
-returns-in-Err-Fault-clause-stream g c =
+pub returns-in-Err-clause-stream : goal.returns-in-Err-clause-stream
+returns-in-Err-clause-stream g c =
     let read = is_read (map string_bytes c.args.words.now) _ _ c.in-Some.form c.in-Ok.input _ _ c.in-Some.ensures c.in-Ok.ensures.bytes c.in-Ok.ensures.end c.in-Ok.ensures.short c.in-Ok-bytes_given.ensures.ok c.as_slice.ensures in
-    let first = c.in-Err-Fault.ensures.fault c.in-Err-Fault.fault (ap Err c.in-Err-Fault.field-0-is) in
-    rw c.in-Err-Fault.field-0-is (λ fault e. told_fault _ _ _ _ c.in-Err-Fault.fault fault read first e)
+    λ fault e. told_fault _ _ _ _ c.in-Err.fault fault read c.in-Err.ensures.fault e
 
-pub returns-in-Err-Fault-clause-complete : goal.returns-in-Err-Fault-clause-complete
-returns-in-Err-Fault-clause-complete g c =
+pub returns-in-Err-clause-complete : goal.returns-in-Err-clause-complete
+returns-in-Err-clause-complete g c =
     let read = is_read (map string_bytes c.args.words.now) _ _ c.in-Some.form c.in-Ok.input _ _ c.in-Some.ensures c.in-Ok.ensures.bytes c.in-Ok.ensures.end c.in-Ok.ensures.short c.in-Ok-bytes_given.ensures.ok c.as_slice.ensures in
-    let first = c.in-Err-Fault.ensures.fault c.in-Err-Fault.fault (ap Err c.in-Err-Fault.field-0-is) in
-    λ told shown reads writes. absurd (told_no_lines _ _ _ _ c.in-Err-Fault.fault read first told shown)
+    λ told shown reads writes. absurd (told_no_lines _ _ _ _ c.in-Err.fault read c.in-Err.ensures.fault told shown)
+
+pub returns-in-Ok-write_lines-clause-done : goal.returns-in-Ok-write_lines-clause-done
+returns-in-Ok-write_lines-clause-done g c =
+    let read = is_read (map string_bytes c.args.words.now) _ _ c.in-Some.form c.in-Ok.input _ _ c.in-Some.ensures c.in-Ok.ensures.bytes c.in-Ok.ensures.end c.in-Ok.ensures.short c.in-Ok-bytes_given.ensures.ok c.as_slice.ensures in
+    let all = rw c.in-Ok-new.ensures.begins.0 at c.in-Ok-write_lines.ensures.ok in
+    λ e. told_done _ _ _ _ c.in-Ok-new.reader.records _ _ read c.in-Ok-new.ensures.ok all
 
 pub returns-in-Ok-write_lines-clause-front : goal.returns-in-Ok-write_lines-clause-front
 returns-in-Ok-write_lines-clause-front g c =
     let read = is_read (map string_bytes c.args.words.now) _ _ c.in-Some.form c.in-Ok.input _ _ c.in-Some.ensures c.in-Ok.ensures.bytes c.in-Ok.ensures.end c.in-Ok.ensures.short c.in-Ok-bytes_given.ensures.ok c.as_slice.ensures in
-    let front = rw (c.as_slice-2.ensures ∙ sym c.as_slice.ensures) at c.write_lines.ensures.front in
-    told_front _ _ _ _ (records_of c.in-Ok-records_of.records) _ _ read c.in-Ok-records_of.ensures.found front
+    let front = rw c.in-Ok-new.ensures.begins.0 at c.write_lines.ensures.front in
+    told_front _ _ _ _ c.in-Ok-new.reader.records _ _ read c.in-Ok-new.ensures.ok front
 
-pub returns-in-Err-WriteFault-clause-write_fault_of_stream :
-    goal.returns-in-Err-WriteFault-clause-write_fault_of_stream
+pub returns-in-Ok-write_lines-clause-no_lines : goal.returns-in-Ok-write_lines-clause-no_lines
+returns-in-Ok-write_lines-clause-no_lines g c =
+    let read = is_read (map string_bytes c.args.words.now) _ _ c.in-Some.form c.in-Ok.input _ _ c.in-Some.ensures c.in-Ok.ensures.bytes c.in-Ok.ensures.end c.in-Ok.ensures.short c.in-Ok-bytes_given.ensures.ok c.as_slice.ensures in
+    told_some _ _ _ _ c.in-Ok-new.reader.records _ read c.in-Ok-new.ensures.ok
+
+pub returns-in-Err-WriteFault-clause-write_fault_of_stream : goal.returns-in-Err-WriteFault-clause-write_fault_of_stream
 returns-in-Err-WriteFault-clause-write_fault_of_stream g c =
     let read = is_read (map string_bytes c.args.words.now) _ _ c.in-Some.form c.in-Ok.input _ _ c.in-Some.ensures c.in-Ok.ensures.bytes c.in-Ok.ensures.end c.in-Ok.ensures.short c.in-Ok-bytes_given.ensures.ok c.as_slice.ensures in
-    λ e. told_lines _ _ _ _ (records_of c.in-Ok-records_of.records) read c.in-Ok-records_of.ensures.found
+    λ e. told_lines _ _ _ _ c.in-Ok-new.reader.records read c.in-Ok-new.ensures.ok
 
 pub returns-in-Err-WriteFault-clause-front : goal.returns-in-Err-WriteFault-clause-front
 returns-in-Err-WriteFault-clause-front g c =
     let read = is_read (map string_bytes c.args.words.now) _ _ c.in-Some.form c.in-Ok.input _ _ c.in-Some.ensures c.in-Ok.ensures.bytes c.in-Ok.ensures.end c.in-Ok.ensures.short c.in-Ok-bytes_given.ensures.ok c.as_slice.ensures in
-    let front = rw (c.as_slice-2.ensures ∙ sym c.as_slice.ensures) at c.write_lines.ensures.front in
-    told_front _ _ _ _ (records_of c.in-Ok-records_of.records) _ _ read c.in-Ok-records_of.ensures.found front
+    let front = rw c.in-Ok-new.ensures.begins.0 at c.write_lines.ensures.front in
+    told_front _ _ _ _ c.in-Ok-new.reader.records _ _ read c.in-Ok-new.ensures.ok front
+
+pub returns-in-Err-WriteFault-clause-no_lines : goal.returns-in-Err-WriteFault-clause-no_lines
+returns-in-Err-WriteFault-clause-no_lines g c =
+    let read = is_read (map string_bytes c.args.words.now) _ _ c.in-Some.form c.in-Ok.input _ _ c.in-Some.ensures c.in-Ok.ensures.bytes c.in-Ok.ensures.end c.in-Ok.ensures.short c.in-Ok-bytes_given.ensures.ok c.as_slice.ensures in
+    told_some _ _ _ _ c.in-Ok-new.reader.records _ read c.in-Ok-new.ensures.ok
 
 pub returns-clause-front : goal.returns-clause-front
 returns-clause-front g c =
     let read = is_read (map string_bytes c.args.words.now) _ _ c.in-Some.form c.in-Ok.input _ _ c.in-Some.ensures c.in-Ok.ensures.bytes c.in-Ok.ensures.end c.in-Ok.ensures.short c.in-Ok-bytes_given.ensures.ok c.as_slice.ensures in
-    let front = rw (c.as_slice-2.ensures ∙ sym c.as_slice.ensures) at c.write_lines.ensures.front in
-    told_front _ _ _ _ (records_of c.in-Ok-records_of.records) _ _ read c.in-Ok-records_of.ensures.found front
+    let front = rw c.in-Ok-new.ensures.begins.0 at c.write_lines.ensures.front in
+    told_front _ _ _ _ c.in-Ok-new.reader.records _ _ read c.in-Ok-new.ensures.ok front
+
+pub returns-clause-no_lines : goal.returns-clause-no_lines
+returns-clause-no_lines g c =
+    let read = is_read (map string_bytes c.args.words.now) _ _ c.in-Some.form c.in-Ok.input _ _ c.in-Some.ensures c.in-Ok.ensures.bytes c.in-Ok.ensures.end c.in-Ok.ensures.short c.in-Ok-bytes_given.ensures.ok c.as_slice.ensures in
+    told_some _ _ _ _ c.in-Ok-new.reader.records _ read c.in-Ok-new.ensures.ok
