@@ -1,0 +1,4 @@
+pub mod WordLemmas
+pub mod WorkLemmas
+pub mod MoveLemmas
+pub mod EndLemmas
