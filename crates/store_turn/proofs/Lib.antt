@@ -1,0 +1,9 @@
+pub mod Results
+pub mod Histories
+pub mod Totals
+pub mod Knowns
+pub mod Moves
+pub mod Ends
+pub mod Called
+pub mod Crowds
+pub mod Crossings

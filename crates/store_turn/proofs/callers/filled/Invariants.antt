@@ -1,0 +1,9 @@
+use Rattle.std.proofs.Common.{◌≤◌, ◌-◌, length}
+use Rattle.store_turn.specs.Turns.{FilledBefore}
+use Rattle.store_turn.proofs.callers.filled.Given as goal
+
+abbrev pub invariant-loop-place : goal.invariant-loop-place
+invariant-loop-place g l = (l.place ≤ length l.fn.there) × FilledBefore l.fn.there l.place
+
+abbrev pub decreases-loop-place : goal.decreases-loop-place
+decreases-loop-place g l = length l.fn.there - l.place

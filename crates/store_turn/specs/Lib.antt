@@ -1,0 +1,5 @@
+pub mod Calls
+pub mod Sides
+pub mod Turns
+pub mod Seats
+pub mod Rule
