@@ -1,7 +1,8 @@
-# What the measurements share: a folder that goes when the shell ends, and the number of instructions of a run.
+# What the measurements share: the two proved programs, unless XSLU or XSSTREAM names another one, a folder that goes when
+# the shell ends, and the number of instructions of a run.
 here=$(cd "$(dirname "$0")/.." && pwd)
-xslu=$here/crates/xslu/out/xslu
-xsstream=$here/crates/xsstream/out/xsstream
+xslu=${XSLU:-$("$here/bin/proved" xslu)}
+xsstream=${XSSTREAM:-$("$here/bin/proved" xsstream)}
 work=$(mktemp -d)
 trap 'rm -rf "$work"' EXIT
 

@@ -1,0 +1,213 @@
+#!/usr/bin/env python3
+"""cases.py CASE[:SIZE] COUNT: writes the input of a case, with so many units of its work, in a setting of that size."""
+import struct
+import sys
+
+DIRECTORY, READ, INTRODUCE, RELEASE, WRITE, MKDIR, RM, SET_PERMS = 1, 2, 8, 9, 11, 12, 13, 14
+
+
+def message(kind, payload, req=0):
+    return struct.pack("<IIII", kind, req, 0, len(payload)) + payload
+
+
+def ask(domid, kind, payload, turns=1):
+    print("send %d %s" % (domid, message(kind, payload).hex()))
+    print("serve %d\n" % domid * turns, end="")
+
+
+def domains(domids):
+    for d in domids:
+        print("domain %d at 0" % d)
+
+
+# Bytes of messages.
+
+
+def long_values(count):
+    """Values of 4000 bytes, written and read by turns; a unit is a request."""
+    for i in range(count // 2):
+        ask(0, WRITE, b"/a\0" + b"x" * 4000, 4)
+        ask(0, READ, b"/a\0", 4)
+
+
+def writes(count):
+    for i in range(count):
+        print("send 0", message(WRITE, b"/a\0" + b"x" * 81, i).hex())
+
+
+def bytewise(count):
+    """WRITEs of 100 bytes whose bytes go one at a time; each message is 240 events."""
+    for i in range(count):
+        writes(1)
+        print("put 0 1\nintake 0 1\n" * 100 + "do 0\n" + "out 0 1\ntake 0 1\n" * 19, end="")
+
+
+def pieces(count):
+    """The same in pieces of 1000 bytes; each message is 5 events and a tenth."""
+    writes(count)
+    for i in range(count):
+        print(("put 0 1000\n" if i % 10 == 0 else "") + "intake 0 1000\ndo 0\nout 0 1000\ntake 0 1000")
+
+
+def waiting(count, size):
+    """`out 0 1` and `take 0 1` by turns, where so many bytes of eight replies of 3772 bytes wait."""
+    print("send 0 " + message(WRITE, b"/a\0" + b"x" * 3756).hex())
+    print("serve 0\n" * 5, end="")
+    for i in range(8):
+        print("send 0 " + message(READ, b"/a\0", i).hex())
+        print("put 0 1024\nintake 0 4112\ndo 0")
+    left = 8 * 3772
+    while left > size:
+        step = min(1024, left - size)
+        print("out 0 %d\ntake 0 1024" % step)
+        left -= step
+    print("out 0 1\ntake 0 1\n" * count, end="")
+
+
+# Nodes.
+
+
+def mixed_nodes(count):
+    """Names in a mixed order: the first half of the requests write them, the second half read them in another order."""
+    half = count // 2
+    for i in range(half):
+        name = b"/node%06d" % (i * 7919 % half)
+        ask(0, WRITE, name + b"\0value of " + name)
+    for i in range(half):
+        ask(0, READ, b"/node%06d\0" % (i * 104729 % half))
+
+
+def host_nodes(count):
+    """The same of the paths that a host with many devices has, in their order."""
+    half = count // 2
+    for i in range(half):
+        ask(0, WRITE, b"/local/domain/%d/device/vif/%d/state\x004" % (i // 10, i % 10))
+    for i in range(half):
+        ask(0, READ, b"/local/domain/%d/device/vif/%d/state\0" % (i // 10, i % 10))
+
+
+def folders(size):
+    """So many nodes in 100 folders, and a folder of 100 nodes beside them."""
+    each = size // 100
+    name = lambda k: b"/folder%02d/node%04d" % (k // each, k % each)
+    for i in range(size):
+        ask(0, WRITE, name(i * 7919 % size) + b"\0value")
+    for i in range(100):
+        ask(0, WRITE, b"/hundred/node%04d\0value" % (i * 37 % 100))
+    return name
+
+
+def folder_read(count, size):
+    name = folders(size)
+    for i in range(count):
+        ask(0, READ, name(i * 104729 % size) + b"\0")
+
+
+def folder_directory(count, size):
+    folders(size)
+    for i in range(count):
+        ask(0, DIRECTORY, b"/hundred\0")
+
+
+def folder_mkdir(count, size):
+    folders(size)
+    for i in range(count):
+        ask(0, MKDIR, b"/folder%02d/new\0" % i)
+
+
+def folder_rm(count, size):
+    """All folders, if any; a unit is a node."""
+    folders(size)
+    for i in range(100 if count else 0):
+        ask(0, RM, b"/folder%02d\0" % i)
+
+
+def absent(count, size):
+    for i in range(count):
+        ask(0, READ, b"/a" * size + b"\0", 1 + size // 512)
+
+
+def long_directory(count, size):
+    for i in range(size):
+        ask(0, MKDIR, b"/d/%05d\0" % i)
+    for i in range(count):
+        ask(0, DIRECTORY, b"/d\0")
+
+
+# Domains.
+
+
+def domain_read(count, size):
+    """READ by a guest among so many; their domids have as many digits, so that lines are as long."""
+    domains(range(10001, 10001 + size))
+    ask(0, WRITE, b"/a\0value")
+    ask(0, SET_PERMS, b"/a\0r0\0")
+    for i in range(count):
+        ask(10001 + size // 2, READ, b"/a\0")
+
+
+def come_and_go(count, domid):
+    for i in range(count):
+        ask(0, INTRODUCE, b"%d\x001\x001\0" % domid)
+        ask(0, RELEASE, b"%d\0" % domid)
+
+
+def domain_highest(count, size):
+    domains(range(10001, 10001 + size))
+    come_and_go(count, 32751)
+
+
+def domain_lowest(count, size):
+    """The lowest domid, whose connection has the highest id."""
+    domains([*range(2, size + 1), 1])
+    ask(0, RELEASE, b"1\0")
+    come_and_go(count, 1)
+
+
+def domain_lowest_id(count, size):
+    """The lowest domid, whose connection has the lowest id."""
+    domains(range(1, size + 1))
+    ask(0, RELEASE, b"1\0")
+    come_and_go(count, 1)
+
+
+# Scripts.
+
+
+def falling_domains(count):
+    domains(range(count, 0, -1))
+
+
+def serves(count):
+    print("serve 0\n" * count, end="")
+
+
+# Streams.
+
+
+def record(kind, body):
+    return struct.pack("<II", kind, len(body)) + body + bytes(-len(body) % 8)
+
+
+def node(path, value):
+    head = struct.pack("<IIHHHH", 0, 0, len(path) + 1, len(value), 0, 2)
+    entries = b"n\0" + struct.pack("<H", 0) + b"r\0" + struct.pack("<H", 5)
+    return record(5, head + entries + path + b"\0" + value)
+
+
+def stream(count):
+    nodes = [node(b"/local/domain/%d/device/vif/%d" % (i // 10, i % 10), b"value of node %d" % i) for i in range(count)]
+    head = b"xenstore" + struct.pack(">I", 1) + bytes(4) + record(1, struct.pack("<ii", -1, -1))
+    return head + b"".join(nodes) + record(0, b"")
+
+
+def raw(count):
+    sys.stdout.buffer.write(stream(count))
+
+
+def digits(count):
+    print(stream(count).hex())
+
+
+case, _, size = sys.argv[1].partition(":")
+globals()[case](int(sys.argv[2]), *map(int, size.split()))
