@@ -1,0 +1,16 @@
+pub mod MarkLemmas
+pub mod MarkReadLemmas
+pub mod MarkOpenLemmas
+pub mod MarkTellLemmas
+pub mod MarkBegunLemmas
+pub mod MarkEditLemmas
+pub mod MarkMadeLemmas
+pub mod MarkOverLemmas
+pub mod MarkLaws
+pub mod StoreMaps
+pub mod StoreChanges
+pub mod StoreKeepers
+pub mod StoreParts
+pub mod StoreRequests
+pub mod StoreBesides
+pub mod StoreSteps

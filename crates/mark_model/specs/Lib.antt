@@ -1,0 +1,4 @@
+pub mod Marks
+pub mod Open
+pub mod Stores
+pub mod Laws
