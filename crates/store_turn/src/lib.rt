@@ -7,8 +7,8 @@
 //! taken before the object changes. [`Turn::close`] gives the object and the whole history, which replays to it.
 //!
 //! Nothing is promised of progress, of fairness, of time, or of the order between callers that told each other nothing.
-//! Waiting spins. [`Callers::take`], [`Callers::give`] and [`Turn::close`] take no memory. [`laws`] has that threads may
-//! share a turn, and that a caller may go to any of them.
+//! Waiting spins, and after 64 looks lets other threads run in between. [`Callers::take`], [`Callers::give`] and
+//! [`Turn::close`] take no memory. [`laws`] has that threads may share a turn, and that a caller may go to any of them.
 #![tactic(auto)]
 
 mod callers;

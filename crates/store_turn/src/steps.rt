@@ -9,8 +9,8 @@ use crate::desk::Desk;
 use crate::object::{NoMemory, Object};
 use crate::views::{Draw, Give, Look, Terms, Tickets, View};
 use atomic_table::{Seat, Shared};
-use std::hint;
 use std::sync::Wait;
+use std::{hint, thread};
 
 /// The word with the next ticket.
 pub const TICKET: usize = 0;
@@ -32,18 +32,25 @@ pub fn draw<O: Object>(board: &Board<O>, seat: &mut Place<O>) -> u64
     board.fetch_add::<Draw>(seat, TICKET, 1)
 }
 
-/// Waits until the ticket is served, and takes the slot.
+/// Waits until the ticket is served, and takes the slot. After 64 looks it lets other threads run between two looks, since
+/// there may be more threads than processors.
 pub fn wait<O: Object, R: Wait>(rt: &R, board: &Board<O>, seat: &mut Place<O>, ticket: u64)
     requires own { (seat.old.table_id ≡ board.now.table_id) × (board.now.table_id.words ≡ 2) }
     requires waits { WaitsWith ticket seat.old.me }
     ensures own { (seat.new.table_id ≡ seat.old.table_id) × (seat.new.id ≡ seat.old.id) }
     ensures taken { Taken (λ desk. desk.entries.items) (λ desk. desk.start.value) ticket seat.old.me seat.new.me }
 {
+    let mut looks = 0;
     for _ in rt.forever() {
         if board.load::<Look>(seat, SERVING) == ticket {
             return;
         }
-        hint::spin_loop();
+        if looks < 64 {
+            looks += 1;
+            hint::spin_loop();
+        } else {
+            thread::yield_now();
+        }
     }
     unreachable!()
 }

@@ -1,12 +1,13 @@
 //! Worked turns, found by hand.
 
-ghost use Rattle.std.specs.Prelude.{◌≡◌};
+ghost use Rattle.std.specs.Prelude.{◌≡◌, All, IfOk};
 
-use crate::{Caller, History, NoMemory, Object, Turn};
+use crate::{Caller, Callers, History, NoMemory, Object, Turn};
+use std::alloc::Global;
 use std::marker::Model;
 use std::sync::Wait;
 use std::test::Fail;
-use std::thread::{Threads, join};
+use std::thread::{Threads, join, map_vec};
 
 /// A list of numbers. An op appends its number, and is answered by how many there were before.
 #[derive(Drop)]
@@ -88,9 +89,9 @@ fn call_beside<R: Threads + Wait + Sync>(
     )
 }
 
-/// Whether the calls of each of two callers stand in its order, and none is missing.
-fn in_order(history: &History<Numbers>) -> bool {
-    let mut next = [0u32, 100];
+/// Whether the numbers of each caller rise by one, from the one that `next` has at its place. It leaves there the one that
+/// would follow.
+fn in_order(history: &History<Numbers>, next: &mut [u32]) -> bool {
     for place in 0..history.len() {
         let Some(entry) = history.at(place) else {
             return false;
@@ -103,7 +104,7 @@ fn in_order(history: &History<Numbers>) -> bool {
         }
         *want = want.wrapping_add(1);
     }
-    next == [3, 103]
+    true
 }
 
 #[test]
@@ -123,7 +124,88 @@ fn two_threads_make_three_calls_each(rt: HostRuntime) -> Result<(), Fail> {
     callers.give(one);
     assert!(rt; by_one && by_two && callers.all_there());
     let (numbers, history) = turn.close(callers);
-    assert!(rt; numbers.items.len() == 6 && history.len() == 6 && in_order(&history));
+    let mut next = [0, 100];
+    assert!(rt; numbers.items.len() == 6 && history.len() == 6);
+    assert!(rt; in_order(&history, &mut next) && next == [3, 103]);
+    Ok(())
+}
+
+/// Makes a thousand calls, and says whether all were answered.
+fn call_often<R: Wait>(
+    rt: &R,
+    turn: &Turn<Numbers>,
+    mut caller: Caller<Numbers>,
+) -> (Caller<Numbers>, bool)
+    requires own { caller.turn ≡ turn.now.id }
+    ensures { result.0.turn ≡ turn.now.id }
+{
+    let mut all = true;
+    for number in 0..1000 {
+        all &= turn.call(rt, &mut caller, number).is_ok();
+    }
+    (caller, all)
+}
+
+/// A thousand calls of each of these callers, on threads of their own.
+fn call_in_threads<R: Threads + Wait + Sync>(
+    rt: &R,
+    turn: &Turn<Numbers>,
+    callers: Vec<Caller<Numbers>>,
+) -> Result<Vec<(Caller<Numbers>, bool)>, NoMemory>
+    requires { All (λ caller. caller.turn ≡ turn.now.id) callers.items }
+    ensures { IfOk result (λ back. All (λ one. one.0.turn ≡ turn.now.id) back.items) }
+{
+    map_vec(
+        rt,
+        callers,
+        &|caller: Caller<Numbers>| -> (Caller<Numbers>, bool)
+            requires { caller.turn ≡ turn.now.id }
+            ensures { result.0.turn ≡ turn.entry.now.id }
+        { call_often(rt, turn, caller) },
+    )
+}
+
+/// Takes eight callers, or all that are there.
+fn take_all(alloc: Global, callers: &mut Callers<Numbers>) -> Result<Vec<Caller<Numbers>>, NoMemory>
+    ensures turn { callers.new.turn ≡ callers.old.turn }
+    ensures own { IfOk result (λ taken. All (λ caller. caller.turn ≡ callers.old.turn) taken.items) }
+{
+    let mut taken = Vec::new(alloc);
+    for _ in 0..8 {
+        if let Some(caller) = callers.take() {
+            taken.push(caller)?;
+        }
+    }
+    Ok(taken)
+}
+
+/// Gives these callers back, and says whether all their calls were answered.
+fn give_all(callers: &mut Callers<Numbers>, mut back: Vec<(Caller<Numbers>, bool)>) -> bool
+    requires own { All (λ one. one.0.turn ≡ callers.old.turn) back.items }
+    ensures turn { callers.new.turn ≡ callers.old.turn }
+{
+    let mut all = true;
+    while let Some((caller, answered)) = back.pop() {
+        callers.give(caller);
+        all &= answered;
+    }
+    all
+}
+
+#[test]
+fn eight_threads_make_a_thousand_calls_each(rt: HostRuntime) -> Result<(), Fail> {
+    let numbers = Numbers {
+        items: Vec::new(rt.alloc()),
+    };
+    let (turn, mut callers) = Turn::new(rt.alloc(), numbers, 8)?;
+    let taken = take_all(rt.alloc(), &mut callers)?;
+    let back = call_in_threads(&rt, &turn, taken)?;
+    let answered = give_all(&mut callers, back);
+    assert!(rt; answered && callers.all_there());
+    let (numbers, history) = turn.close(callers);
+    let mut next = [0; 8];
+    assert!(rt; numbers.items.len() == 8000 && history.len() == 8000);
+    assert!(rt; in_order(&history, &mut next) && next == [1000; 8]);
     Ok(())
 }
 
