@@ -209,6 +209,18 @@ impl<T: Drop> IdMap<T> {
         Ok(())
     }
 
+    /// Takes the item of an id out, if it has one. It moves the items of higher ids.
+    pub fn take(&mut self, id: u32) -> Option<T>
+        ensures found { result ≡ find nat_cmp id self.old.entries }
+        ensures after { self.new.entries ≡ where_key nat_cmp (λ key. not (id == key)) self.old.entries }
+        ensures spare { self.old.spare ≤ self.new.spare }
+    {
+        match place_of(&self.entries, id) {
+            Ok(place) => Some(self.entries.remove(place).1),
+            Err(_) => None,
+        }
+    }
+
     /// Removes the item of an id, and says whether there was one. It moves the items of higher ids.
     pub fn remove(&mut self, id: u32) -> bool
         ensures found { result ≡ is_some (find nat_cmp id self.old.entries) }

@@ -1,6 +1,6 @@
 //! Chunks of a map.
 
-ghost use Rattle.std.specs.Prelude.{◌≡◌, ◌<◌, ◌≤◌, ◌==◌, [], true, nat_le, length, take, drop, IfOk};
+ghost use Rattle.std.specs.Prelude.{◌≡◌, ◌<◌, ◌≤◌, ◌==◌, [], ◌∷◌, true, nat_le, length, take, drop, IfOk};
 ghost use Rattle.std.specs.Borrow.{LendsIf, sem};
 ghost use Rattle.std.specs.FinMap.{find, put, is_sorted};
 ghost use Rattle.std.specs.Option.{option_copied, option_copied_mut};
@@ -41,20 +41,27 @@ impl<T> Model for Chunk<T> {
 }
 
 impl<T> Chunk<T> {
-    pub fn is_full(&self) -> bool
+    /// All the entries.
+    pub fn entries(&self) -> &[(Path, T)]
+        ensures { result.now ≡ self.now }
+    {
+        self.entries.as_slice()
+    }
+
+    pub(crate) fn is_full(&self) -> bool
         ensures { result ≡ nat_le full (length self.now) }
     {
         FULL <= self.entries.len()
     }
 
-    pub fn is_empty(&self) -> bool
+    pub(crate) fn is_empty(&self) -> bool
         ensures { result ≡ (length self.now == 0) }
     {
         self.entries.is_empty()
     }
 
     /// Whether the first entry stands behind a path.
-    pub fn begins_behind(&self, path: &Path) -> bool
+    pub(crate) fn begins_behind(&self, path: &Path) -> bool
         requires { 0 < length self.now }
         ensures { result ≡ begins_behind path.now self.now }
     {
@@ -63,7 +70,7 @@ impl<T> Chunk<T> {
 
     /// Whether the first entry stands behind a path, and behind all that is at and below its child `leaf` if that is
     /// not empty.
-    pub fn begins_past(&self, path: &Path, leaf: &[u8]) -> bool
+    pub(crate) fn begins_past(&self, path: &Path, leaf: &[u8]) -> bool
         requires { 0 < length self.now }
         ensures { result ≡ begins_past path.now leaf.now self.now }
     {
@@ -71,7 +78,7 @@ impl<T> Chunk<T> {
     }
 
     /// The first path that stands so.
-    pub fn first_past(&self, path: &Path, leaf: &[u8]) -> Option<&Path>
+    pub(crate) fn first_past(&self, path: &Path, leaf: &[u8]) -> Option<&Path>
         requires { is_sorted path_cmp self.now ≡ true }
         ensures { option_copied result ≡ first_past path.now leaf.now self.now }
     {
@@ -84,7 +91,7 @@ impl<T> Chunk<T> {
     }
 
     /// The item of a path, if it has one.
-    pub fn get(&self, path: &Path) -> Option<&T>
+    pub(crate) fn get(&self, path: &Path) -> Option<&T>
         requires { is_sorted path_cmp self.now ≡ true }
         ensures { option_copied result ≡ find path_cmp path.now self.now }
     {
@@ -95,7 +102,7 @@ impl<T> Chunk<T> {
     }
 
     /// The item of a path, if it has one, to be changed.
-    pub fn get_mut(&mut self, path: &Path) -> Option<&mut T>
+    pub(crate) fn get_mut(&mut self, path: &Path) -> Option<&mut T>
         requires { is_sorted path_cmp self.old ≡ true }
         ensures* writes_back { sem 𝓛 (LendsIf (the_row T.row) T.row self.entry result (λ item. put path_cmp path.now item self.old) self.old) }
         ensures value { option_copied_mut result ≡ find path_cmp path.now self.old }
@@ -109,7 +116,7 @@ impl<T> Chunk<T> {
 
 impl<T: Drop> Chunk<T> {
     /// A chunk with no entries.
-    pub fn new(alloc: Global) -> Result<Chunk<T>, NoMemory>
+    pub(crate) fn new(alloc: Global) -> Result<Chunk<T>, NoMemory>
         ensures { IfOk result (λ chunk. chunk ≡ []) }
     {
         let entries = Vec::with_capacity(alloc, FULL)?;
@@ -117,7 +124,7 @@ impl<T: Drop> Chunk<T> {
     }
 
     /// Gives a path its item. Takes no memory.
-    pub fn put(&mut self, path: Path, item: T)
+    pub(crate) fn put(&mut self, path: Path, item: T)
         requires rising { is_sorted path_cmp self.old ≡ true }
         requires space { length self.old < full }
         ensures { self.new ≡ put path_cmp path item self.old }
@@ -129,7 +136,7 @@ impl<T: Drop> Chunk<T> {
     }
 
     /// Takes the item of a path away, if there is one. Takes no memory.
-    pub fn remove(&mut self, path: &Path)
+    pub(crate) fn remove(&mut self, path: &Path)
         requires { is_sorted path_cmp self.old ≡ true }
         ensures { self.new ≡ without path.now self.old }
     {
@@ -138,8 +145,16 @@ impl<T: Drop> Chunk<T> {
         }
     }
 
+    /// Takes the first entry away. Takes no memory.
+    pub(crate) fn pop_first(&mut self) -> (Path, T)
+        requires { 0 < length self.old }
+        ensures { self.old ≡ result ∷ self.new }
+    {
+        self.entries.remove(0)
+    }
+
     /// Moves the entries behind the first half to an empty chunk.
-    pub fn split_into(&mut self, back: &mut Chunk<T>)
+    pub(crate) fn split_into(&mut self, back: &mut Chunk<T>)
         requires filled { half < length self.old }
         requires empty { length back.old ≡ 0 }
         ensures front { self.new ≡ take half self.old }

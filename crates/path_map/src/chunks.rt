@@ -118,6 +118,22 @@ pub fn remove<T: Drop>(chunks: &mut Vec<Chunk<T>>, path: &Path)
     }
 }
 
+/// Takes the first entry away. Takes no memory.
+pub fn pop_first<T: Drop>(chunks: &mut Vec<Chunk<T>>) -> (Path, T)
+    requires some { 0 < vec_len chunks.old }
+    requires filled { All (λ c. 0 < length c) chunks.old.items }
+    ensures joined { joined chunks.old.items ≡ result ∷ joined chunks.new.items }
+    ensures filled { All (λ c. 0 < length c) chunks.new.items }
+    ensures len { vec_len chunks.new ≤ vec_len chunks.old }
+    ensures capacity { vec_capacity chunks.new ≡ vec_capacity chunks.old }
+{
+    let first = chunks[0].pop_first();
+    if chunks[0].is_empty() {
+        let _chunk = chunks.remove(0);
+    }
+    first
+}
+
 /// Makes empty chunks until there are so many.
 pub fn fill<T: Drop>(alloc: Global, spare: &mut Vec<Chunk<T>>, count: usize) -> Result<(), NoMemory>
     requires { All (λ c. length c ≡ 0) spare.old.items }

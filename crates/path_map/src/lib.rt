@@ -5,7 +5,8 @@
 //! std's `find` and `put` with `path_cmp`.
 //!
 //! Memory is taken by [`PathMap::reserve`] alone. To change an item in place, take it by [`PathMap::get_mut`]. To go
-//! over all items, ask [`PathMap::next_after`] for one path after the other.
+//! over all items, ask [`PathMap::parts`] for their chunks, or [`PathMap::next_after`] for one path after the other; to
+//! move them out, ask [`PathMap::pop_first`].
 #![tactic(auto)]
 
 mod chunk;
@@ -18,6 +19,7 @@ mod search;
 #[cfg(test)]
 mod tests;
 
+pub use chunk::Chunk;
 pub use map::PathMap;
 pub use names::name_below;
 pub use xs_base::NoMemory;

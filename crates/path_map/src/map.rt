@@ -5,7 +5,8 @@ ghost use Rattle.std.specs.Borrow.{LendsIf, sem};
 ghost use Rattle.std.specs.FinMap.{find, put, is_sorted};
 ghost use Rattle.std.specs.Option.{option_copied, option_copied_mut};
 ghost use Rattle.xs_model.specs.Paths.{path_cmp};
-ghost use Rattle.path_map.specs.Map.{without, most_kept};
+ghost use Rattle.path_map.specs.Map.{without, most_kept, first_entry, behind_first};
+ghost use Rattle.path_map.specs.Chunks.{joined};
 ghost use Rattle.path_map.specs.Marks.{path_behind, first_past};
 ghost use Rattle.path_map.specs.contracts.map.PathMap.{the_row};
 
@@ -68,6 +69,14 @@ impl<T> PathMap<T> {
         ensures { is_sorted path_cmp self.now.entries ≡ true }
     {
         let _chunks = self.chunks.len();
+    }
+
+    /// The entries in their order, in parts.
+    pub fn parts(&self) -> &[Chunk<T>]
+        ensures entries { joined result.now ≡ self.now.entries }
+        ensures rising { is_sorted path_cmp self.now.entries ≡ true }
+    {
+        self.chunks.as_slice()
     }
 
     /// The item of a path, if it has one. O(log items) comparisons of paths.
@@ -161,5 +170,17 @@ impl<T: Drop> PathMap<T> {
         if !self.chunks.is_empty() {
             chunks::remove(&mut self.chunks, path);
         }
+    }
+
+    /// Takes the first entry away, if there is one. Takes no memory. It moves the entries of one chunk, and the list of
+    /// chunks where that has no other entry.
+    pub fn pop_first(&mut self) -> Option<(Path, T)>
+        ensures first { result ≡ first_entry self.old.entries }
+        ensures rest { self.new.entries ≡ behind_first self.old.entries }
+    {
+        if self.chunks.is_empty() {
+            return None;
+        }
+        Some(chunks::pop_first(&mut self.chunks))
     }
 }

@@ -53,6 +53,13 @@ impl<T> Items<T> {
         self.items.as_slice()
     }
 
+    /// The items as a vector.
+    pub fn into_vec(self) -> Vec<T>
+        ensures { result.items ≡ self }
+    {
+        self.items
+    }
+
     /// The item at a place, counted from 0, if there is one. O(1).
     pub fn at(&self, place: usize) -> Option<&T>
         ensures { option_copied result ≡ slice_get self.now place }
