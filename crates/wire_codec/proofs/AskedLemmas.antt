@@ -181,9 +181,14 @@ command_in_form served kind payload domid operation path = has_form served kind 
 
 pub request_in_form : (result : Result code.Request RequestErr) (served : List ℕ) (kind : ℕ) (payload : List ℕ) (domid : ℕ) → IsRequest result (request_of served kind payload domid) → IfOk result AsksInForm
 request_in_form (Ok (variant.Command command)) served kind payload domid is = has_form served kind payload domid (request_view (variant.Command command)) is
+request_in_form (Ok (variant.Watch wpath token)) served kind payload domid is = tt
+request_in_form (Ok (variant.Unwatch wpath token)) served kind payload domid is = tt
+request_in_form (Ok variant.Start) served kind payload domid is = tt
+request_in_form (Ok (variant.End commit)) served kind payload domid is = tt
 request_in_form (Ok (variant.Introduce named evtchn)) served kind payload domid is = has_form served kind payload domid (Introduce named evtchn) is
 request_in_form (Ok (variant.Release named)) served kind payload domid is = has_form served kind payload domid (Release named) is
 request_in_form (Ok (variant.DomainPath named)) served kind payload domid is = has_form served kind payload domid (DomainPath named) is
 request_in_form (Ok (variant.IsIntroduced named)) served kind payload domid is = has_form served kind payload domid (IsIntroduced named) is
 request_in_form (Ok (variant.SetTarget named target)) served kind payload domid is = has_form served kind payload domid (SetTarget named target) is
+request_in_form (Ok variant.ResetWatches) served kind payload domid is = tt
 request_in_form (Err error) served kind payload domid is = tt

@@ -5,7 +5,7 @@ use Rattle.wire_codec.specs.declared.request.TreeOp.{TreeOp}
 use Rattle.wire_codec.specs.declared.request.TreeOp.TheVariants as op
 use Rattle.wire_codec.specs.declared.request.TreeCommand.{TreeCommand}
 use Rattle.wire_codec.specs.declared.request.Request.{Request}
-use Rattle.wire_codec.specs.declared.request.Request.TheVariants.{Command, Introduce, Release, DomainPath, IsIntroduced, SetTarget}
+use Rattle.wire_codec.specs.declared.request.Request.TheVariants.{Command, Watch, Unwatch, Start, End, Introduce, Release, DomainPath, IsIntroduced, SetTarget, ResetWatches}
 use Rattle.wire_codec.specs.declared.request.RequestErr.{RequestErr}
 use Rattle.wire_codec.specs.declared.request.RequestErr.TheVariants.{Enosys, Einval, NoMemory}
 use Rattle.xs_model.specs.declared.message.Header.{Header}
@@ -45,24 +45,35 @@ operation_of (op.DirectoryPart offset) = model.DirectoryPart offset
 
 abbrev pub request_view : Request → model.Request
 request_view (Command command) = model.Command (operation_of command.op) command.path
+request_view (Watch wpath token) = model.Watch wpath token
+request_view (Unwatch wpath token) = model.Unwatch wpath token
+request_view Start = model.Start
+request_view (End commit) = model.End commit
 request_view (Introduce domid evtchn) = model.Introduce domid evtchn
 request_view (Release domid) = model.Release domid
 request_view (DomainPath domid) = model.DomainPath domid
 request_view (IsIntroduced domid) = model.IsIntroduced domid
 request_view (SetTarget domid target) = model.SetTarget domid target
+request_view ResetWatches = model.ResetWatches
 
 -- the command is not RM of `/`, nor SET_PERMS to no entries
 abbrev pub IsInForm : TreeCommand → Type 0
 IsInForm command = is_out_of_form (operation_of command.op) command.path ≡ false
 
--- it is neither of these commands, nor RELEASE of domain 0, and it names no domain above the greatest one
+-- It is neither of these commands, nor RELEASE of domain 0, and it names no domain above the greatest one. Of a watch
+-- path and a token `IsRequest` says what they are.
 abbrev pub AsksInForm : Request → Type 0
 AsksInForm (Command command) = IsInForm command
+AsksInForm (Watch wpath token) = Unit {0}
+AsksInForm (Unwatch wpath token) = Unit {0}
+AsksInForm Start = Unit {0}
+AsksInForm (End commit) = Unit {0}
 AsksInForm (Introduce domid evtchn) = domid ≤ 32751
 AsksInForm (Release domid) = (0 < domid) × (domid ≤ 32751)
 AsksInForm (DomainPath domid) = domid ≤ 32751
 AsksInForm (IsIntroduced domid) = domid ≤ 32751
 AsksInForm (SetTarget domid target) = (domid ≤ 32751) × (target ≤ 32751)
+AsksInForm ResetWatches = Unit {0}
 
 -- whether bytes are the text of `/`
 abbrev pub is_root_text : List ℕ → Bool

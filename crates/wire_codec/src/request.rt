@@ -1,10 +1,10 @@
 //! What a message asks for.
 
 ghost use Rattle.std.specs.Prelude.{◌≡◌, ◌≤◌, IfOk};
-ghost use Rattle.xs_model.specs.Requests.{request_of, read_types, path_request, write_request, rm_request, set_perms_request, part_request, or_einval};
+ghost use Rattle.xs_model.specs.Requests.{request_of, all_types, path_request, write_request, rm_request, set_perms_request, part_request, or_einval};
 ghost use Rattle.wire_codec.specs.Codec.{IsRequest, AsksInForm, operation_of};
 
-use crate::{domain, payload};
+use crate::{domain, payload, transaction, watch};
 use std::alloc::{AllocError, Global};
 use thiserror::Error;
 use xs_base::Bytes;
@@ -40,10 +40,19 @@ pub struct TreeCommand {
     pub path: Path,
 }
 
-/// What a payload asks for. The requests that are built so far.
+/// What a payload asks for.
 #[derive(Debug, Drop)]
 pub enum Request {
+    /// A command on the tree.
     Command(TreeCommand),
+    /// A watch is set at a path for a domain or a special path, and this token is told with its events.
+    Watch { wpath: Bytes, token: Bytes },
+    /// The watch that was set with this path and this token is removed.
+    Unwatch { wpath: Bytes, token: Bytes },
+    /// A transaction is opened.
+    Start,
+    /// A transaction ends, and what was done in it is committed or dropped.
+    End { commit: bool },
     /// A domain gets a ring connection, with this event channel.
     Introduce { domid: u16, evtchn: u32 },
     /// A domain loses its ring connection.
@@ -54,13 +63,15 @@ pub enum Request {
     IsIntroduced { domid: u16 },
     /// A domain stands for another one besides itself.
     SetTarget { domid: u16, target: u16 },
+    /// All watches of the connection are removed, and its open transactions are dropped.
+    ResetWatches,
 }
 
 /// Why a message asks for nothing: the first refusal, in the order of the variants.
 #[derive(Clone, Copy, Debug, PartialEq, Eq, Error)]
 pub enum RequestErr {
-    /// The type is not served.
-    #[error("the type is not served")]
+    /// The type is none of the profile.
+    #[error("the type is none of the profile")]
     Enosys,
     /// The payload is outside its form.
     #[error("the payload is outside its form")]
@@ -84,8 +95,8 @@ impl From<AllocError> for RequestErr {
 /// What a domain's message asks for, by the type in its header and its payload: the payloads of xenstore.txt.
 /// O(length of the payload).
 ///
-/// A type that is not served and a payload outside its form are refused before memory is taken, so that no want of
-/// memory is told in their place.
+/// It reads every type of xs_wire.h that the profile has; which of them are served is the daemon's business. Another type
+/// and a payload outside its form are refused before memory is taken, so that no want of memory is told in their place.
 pub fn read_request(
     alloc: Global,
     head: Header,
@@ -93,7 +104,7 @@ pub fn read_request(
     domid: u16,
 ) -> Result<Request, RequestErr>
     requires { domid ≤ 32751 }
-    ensures asked { IsRequest result (request_of read_types head.kind payload.now domid) }
+    ensures asked { IsRequest result (request_of all_types head.kind payload.now domid) }
     // It is not RM of `/`, nor RELEASE of domain 0, nor SET_PERMS without entries, and its domids are in bounds.
     ensures in_form { IfOk result AsksInForm }
 {
@@ -101,6 +112,10 @@ pub fn read_request(
         kind::DIRECTORY => at_path(alloc, TreeOp::Directory, payload, domid),
         kind::READ => at_path(alloc, TreeOp::Read, payload, domid),
         kind::GET_PERMS => at_path(alloc, TreeOp::GetPerms, payload, domid),
+        kind::WATCH => watch::watch(alloc, payload, domid),
+        kind::UNWATCH => watch::unwatch(alloc, payload, domid),
+        kind::TRANSACTION_START => Ok(Request::Start),
+        kind::TRANSACTION_END => transaction::end(payload).ok_or(RequestErr::Einval),
         kind::WRITE => write(alloc, payload, domid),
         kind::MKDIR => at_path(alloc, TreeOp::Mkdir, payload, domid),
         kind::RM => rm(alloc, payload, domid),
@@ -110,6 +125,7 @@ pub fn read_request(
         kind::GET_DOMAIN_PATH => domain::domain_path(payload).ok_or(RequestErr::Einval),
         kind::IS_DOMAIN_INTRODUCED => domain::is_introduced(payload).ok_or(RequestErr::Einval),
         kind::SET_TARGET => domain::set_target(payload).ok_or(RequestErr::Einval),
+        kind::RESET_WATCHES => Ok(Request::ResetWatches),
         kind::DIRECTORY_PART => directory_part(alloc, payload, domid),
         _ => Err(RequestErr::Enosys),
     }

@@ -1,4 +1,4 @@
-//! Worked messages, byte by byte: one of each type that is served, and their refusals.
+//! Worked messages, byte by byte: one of each type, and their refusals.
 
 use crate::{Header, Request, RequestErr, TreeOp, kind, read_header, read_request, write_message};
 use std::test::Fail;
@@ -42,11 +42,17 @@ fn told(got: &Result<Request, RequestErr>) -> &'static str {
             TreeOp::SetPerms(_) => "set perms",
             TreeOp::DirectoryPart { .. } => "directory part",
         },
+        Ok(Request::Watch { .. }) => "watch",
+        Ok(Request::Unwatch { .. }) => "unwatch",
+        Ok(Request::Start) => "start",
+        Ok(Request::End { commit: true }) => "commit",
+        Ok(Request::End { commit: false }) => "drop",
         Ok(Request::Introduce { .. }) => "introduce",
         Ok(Request::Release { .. }) => "release",
         Ok(Request::DomainPath { .. }) => "domain path",
         Ok(Request::IsIntroduced { .. }) => "is introduced",
         Ok(Request::SetTarget { .. }) => "set target",
+        Ok(Request::ResetWatches) => "reset watches",
         Err(RequestErr::Einval) => "einval",
         Err(RequestErr::Enosys) => "enosys",
         Err(RequestErr::NoMemory) => "memory",
@@ -82,7 +88,7 @@ fn numbers(got: &Result<Request, RequestErr>) -> (u16, u32) {
         Ok(Request::DomainPath { domid }) => (*domid, 0),
         Ok(Request::IsIntroduced { domid }) => (*domid, 0),
         Ok(Request::SetTarget { domid, target }) => (*domid, u32::from(*target)),
-        Ok(Request::Command(_)) | Err(_) => (0, 0),
+        _ => (0, 0),
     }
 }
 
@@ -104,6 +110,41 @@ fn reads_each_domain_type(rt: HostRuntime) -> Result<(), Fail> {
         let got = read_request(rt.alloc(), head_of(kind), payload, 0);
         assert_eq!(rt; told(&got), want);
         assert_eq!(rt; numbers(&got), pair);
+    }
+    Ok(())
+}
+
+/// The watch path and the token that a request has, or no bytes.
+fn watched(got: &Result<Request, RequestErr>) -> (&[u8], &[u8]) {
+    match got {
+        Ok(Request::Watch { wpath, token } | Request::Unwatch { wpath, token }) => {
+            (wpath.as_slice(), token.as_slice())
+        }
+        _ => (b"", b""),
+    }
+}
+
+#[test]
+fn reads_watches_and_transactions(rt: HostRuntime) -> Result<(), Fail> {
+    let cases = [
+        (
+            4,
+            b"a/b\0t\0".as_slice(),
+            "watch",
+            b"a/b".as_slice(),
+            b"t".as_slice(),
+        ),
+        (5, b"@releaseDomain\0\0x", "unwatch", b"@releaseDomain", b""),
+        (6, b"\0", "start", b"", b""),
+        (7, b"T\0", "commit", b"", b""),
+        (7, b"F\0", "drop", b"", b""),
+        (21, b"\0", "reset watches", b"", b""),
+    ];
+    for (kind, payload, want, wpath, token) in cases {
+        let got = read_request(rt.alloc(), head_of(kind), payload, 7);
+        assert_eq!(rt; told(&got), want);
+        assert_eq!(rt; watched(&got).0, wpath);
+        assert_eq!(rt; watched(&got).1, token);
     }
     Ok(())
 }
@@ -132,6 +173,11 @@ fn refuses_what_is_out_of_form(rt: HostRuntime) -> Result<(), Fail> {
         (14, b"/a\0n0\0r\0"),
         (14, b"/a\0n0\0r1"),
         (14, b"/a\0n0\0\0"),
+        (4, b"/a\0t"),
+        (4, b"@other\0t\0"),
+        (5, b"/a\0"),
+        (7, b"T"),
+        (7, b"T\0\0"),
         (8, b"7\05\0"),
         (8, b"7\05\09"),
         (8, b"7\018446744073709551616\09\0"),
@@ -161,7 +207,7 @@ fn refuses_what_is_out_of_form(rt: HostRuntime) -> Result<(), Fail> {
         let got = read_request(rt.alloc(), head_of(kind), payload, 7);
         assert_eq!(rt; told(&got), "einval", "type {kind}");
     }
-    for kind in [0, 4, 6, 15, 18, 23] {
+    for kind in [0, 15, 16, 18, 23] {
         let got = read_request(rt.alloc(), head_of(kind), b"/a\0", 7);
         assert_eq!(rt; told(&got), "enosys", "type {kind}");
     }

@@ -250,12 +250,6 @@ all_types =
     ∷ GET_DOMAIN_PATH ∷ WRITE ∷ MKDIR ∷ RM ∷ SET_PERMS ∷ IS_DOMAIN_INTRODUCED ∷ SET_TARGET ∷ RESET_WATCHES
     ∷ DIRECTORY_PART ∷ []
 
--- The types whose payloads this version reads; each change that builds a type makes the list longer.
-abbrev pub read_types : List ℕ
-read_types =
-    DIRECTORY ∷ READ ∷ GET_PERMS ∷ INTRODUCE ∷ RELEASE ∷ GET_DOMAIN_PATH ∷ WRITE ∷ MKDIR ∷ RM ∷ SET_PERMS
-    ∷ IS_DOMAIN_INTRODUCED ∷ SET_TARGET ∷ DIRECTORY_PART ∷ []
-
 -- The request, or the first refusal: a type that is not served, then a payload outside its form
 abbrev pub request_of : List ℕ → ℕ → List ℕ → ℕ → Result Request WireErr
 request_of served kind payload domid =

@@ -1,7 +1,8 @@
 //! The first fault of the bytes of a path.
 
-ghost use Rattle.std.specs.Prelude.{◌≡◌, ◌<◌, length};
-ghost use Rattle.xs_model.specs.Paths.{path_fault, path_limit, is_path_byte, fault_from, trailing_fault};
+ghost use Rattle.std.specs.Prelude.{◌≡◌, ◌<◌, ℕ, length};
+ghost use Rattle.xs_model.specs.Paths.{path_of, path_fault, path_limit, is_path_byte, fault_from, trailing_fault};
+ghost use Rattle.xs_model.specs.Requests.{is_ok_path};
 
 use xs_model::path::PathFault;
 
@@ -10,6 +11,13 @@ const ABSOLUTE_MAX: usize = 3072;
 
 /// The most bytes of a relative path.
 const RELATIVE_MAX: usize = 2048;
+
+/// Whether bytes are a path, which they are for every domain or for none. It takes no memory. Costs O(bytes).
+pub fn is_path(bytes: &[u8]) -> bool
+    ensures { (domid : ℕ) → result ≡ is_ok_path (path_of bytes.now domid) }
+{
+    first_fault(bytes).is_none()
+}
 
 /// The first fault of the bytes of a path, if they have one. Costs O(1) for a path that is too long,
 /// else O(bytes).

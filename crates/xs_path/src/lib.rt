@@ -17,6 +17,7 @@ ghost use Rattle.xs_base.specs.Memory.{Gives};
 ghost use Rattle.xs_model.specs.Paths.{path_of, parents, is_below, text};
 ghost use Rattle.xs_path.specs.Texts.{leaf_of};
 
+pub use fault::is_path;
 use std::alloc::Global;
 use std::fmt;
 use std::marker::Model;

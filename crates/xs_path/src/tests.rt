@@ -1,6 +1,6 @@
 //! Calls on their happy path, and the faults in their order.
 
-use crate::{Path, PathFault};
+use crate::{Path, PathFault, is_path};
 use std::alloc::Global;
 use std::test::Fail;
 
@@ -32,6 +32,7 @@ fn reads_absolute_and_relative_paths(rt: HostRuntime) -> Result<(), Fail> {
     for (bytes, domid, text) in rows {
         assert!(rt; domid <= 32751);
         assert_eq!(rt; Path::read(alloc, bytes, domid)?.bytes(), text);
+        assert!(rt; is_path(bytes));
     }
     assert_eq!(rt; Path::read(alloc, relative.as_slice(), 0)?.depth(), 4);
     Ok(())
@@ -61,6 +62,7 @@ fn names_the_first_fault(rt: HostRuntime) -> Result<(), Fail> {
             Path::read(alloc, bytes, 0).is_err_and(|found| found == fault),
             "{fault:?}"
         );
+        assert!(rt; !is_path(bytes));
     }
     Ok(())
 }
