@@ -35,7 +35,7 @@ where_swap : (s t : Path → Bool) (tree : Tree) → where_key path_cmp s (where
 where_swap s t [] = refl
 where_swap s t (e ∷ tree) = swap_by s t e tree (where_swap s t tree) (s e.0) (t e.0) refl refl
 
-removal_swap : (tree : Tree) (p : Path) (gone : List Path) → edited_at (edited tree (removals gone)) p None ≡ edited (edited_at tree p None) (removals gone)
+pub removal_swap : (tree : Tree) (p : Path) (gone : List Path) → edited_at (edited tree (removals gone)) p None ≡ edited (edited_at tree p None) (removals gone)
 removal_swap tree p [] = refl
 removal_swap tree p (g ∷ gone) =
     removal_swap (edited_at tree g None) p gone
@@ -116,7 +116,7 @@ last_is tree now paths old left p fits removed pop =
     let of = removal_of tree paths left p removed.gone fits parts in
     (of.0, of.1, record { is = of.2; parts = of.3; made = removed.made })
 
-pub removed_more : (tree now new : Tree) (paths old left : List Path) (p : Path) → IsRemoving tree paths old now → old ≡ left ++ p ∷ [] → new ≡ edited_at now p None → IsRemoving tree paths left new
+abbrev pub removed_more : (tree now new : Tree) (paths old left : List Path) (p : Path) → IsRemoving tree paths old now → old ≡ left ++ p ∷ [] → new ≡ edited_at now p None → IsRemoving tree paths left new
 removed_more tree now new paths old left p removed pop made = record {
   gone = p ∷ removed.gone;
   parts = removed.parts ∙ ap (λ ps. ps ++ removed.gone) pop ∙ append_assoc left (p ∷ []) removed.gone;

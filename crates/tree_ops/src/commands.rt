@@ -1,9 +1,9 @@
 //! One command.
 
-ghost use Rattle.std.specs.Prelude.{◌≡◌, ◌≤◌, ◌∷◌, [], true, ℕ, Option, length, IfOk, OnErr};
+ghost use Rattle.std.specs.Prelude.{◌≡◌, ◌≤◌, ◌∷◌, [], true, ℕ, Option, length, IfOk, OnOk, OnErr};
 ghost use Rattle.xs_model.specs.Paths.{Path as Place, way_down};
 ghost use Rattle.xs_model.specs.Trees.{IsTree, is_present, all_below};
-ghost use Rattle.xs_model.specs.Commands.{command as model_command, answer, permitted, sight_of, nearest_of, absent_of};
+ghost use Rattle.xs_model.specs.Commands.{command as model_command, command_edits, answer, permitted, sight_of, nearest_of, absent_of};
 ghost use Rattle.wire_codec.specs.Codec.{IsInForm, operation_of};
 ghost use Rattle.tree_ops.specs.Answers.{answer_of, seen};
 ghost use Rattle.tree_ops.specs.Outcomes.{IsOutcome};
@@ -20,7 +20,8 @@ use xs_path::Path;
 use xs_perms::{Rights, rights};
 
 /// Does one command of a domain, which may stand for a second one besides, its target. The number is what
-/// DIRECTORY_PART shows, and no other command looks at it. Refused for want of memory, the nodes are as before.
+/// DIRECTORY_PART shows, and no other command looks at it. Refused for want of memory, the nodes are as before, and
+/// nothing was made of the view.
 ///
 /// Each look-up costs O(log nodes) comparisons of paths. Every command looks its path up, and where that is absent
 /// O(log names) of those above it; besides, DIRECTORY looks each child up until the reply is full, DIRECTORY_PART also
@@ -36,7 +37,9 @@ pub fn run<V: View>(
     requires { IsInForm command.now }
     ensures ok { IfOk result (λ did. IsOutcome (model_command (operation_of command.now.op) command.now.path (record { domid = domid; target = target }) number (V.nodes view.old)) did (V.nodes view.new)) }
     ensures short { IfOk result (λ did. IfOk did.reply (λ payload. length payload ≤ 4096)) }
+    ensures made { OnOk result (V.made view.old (command_edits (operation_of command.now.op) command.now.path (record { domid = domid; target = target }) number (V.nodes view.old)) view.new) }
     ensures err { OnErr result (V.nodes view.new ≡ V.nodes view.old) }
+    ensures made_err { OnErr result (V.made view.old [] view.new) }
 {
     let touched = look(alloc, view, &command.path)?;
     let answer = answered(

@@ -1,6 +1,6 @@
 //! Making edits.
 
-ghost use Rattle.std.specs.Prelude.{◌≡◌, ◌≤◌, IfOk, OnOk, OnErr, vec_len, reverse};
+ghost use Rattle.std.specs.Prelude.{◌≡◌, ◌≤◌, [], IfOk, OnOk, OnErr, vec_len, reverse};
 ghost use Rattle.xs_model.specs.Trees.{edited, edit_paths};
 ghost use Rattle.xs_model.specs.Commands.{removals};
 ghost use Rattle.tree_ops.specs.Answers.{edits_of, sets};
@@ -48,7 +48,9 @@ fn copies(alloc: Global, from: &[Path]) -> Result<Paths, NoMemory>
 pub fn make<V: View>(view: &mut V, edits: Edits) -> Result<(), NoMemory>
     requires { Fits (V.nodes view.old) edits }
     ensures ok { OnOk result (V.nodes view.new ≡ edited (V.nodes view.old) (edits_of edits)) }
+    ensures made { OnOk result (V.made view.old (edits_of edits) view.new) }
     ensures err { OnErr result (V.nodes view.new ≡ V.nodes view.old) }
+    ensures made_err { OnErr result (V.made view.old [] view.new) }
 {
     match edits {
         Edits::Sets(entries) => {
@@ -67,7 +69,8 @@ pub fn make<V: View>(view: &mut V, edits: Edits) -> Result<(), NoMemory>
 fn set_all<V: View>(view: &mut V, entries: Vec<(Path, Node)>)
     requires fits { FitsSets (V.nodes view.old) entries.items }
     requires spare { vec_len entries ≤ V.spare view.old }
-    ensures { V.nodes view.new ≡ edited (V.nodes view.old) (sets entries.items) }
+    ensures nodes { V.nodes view.new ≡ edited (V.nodes view.old) (sets entries.items) }
+    ensures made { V.made view.old (sets entries.items) view.new }
 {
     let mut left = entries;
     left.reverse();
@@ -81,7 +84,8 @@ fn set_all<V: View>(view: &mut V, entries: Vec<(Path, Node)>)
 fn remove_all<V: View>(view: &mut V, paths: Vec<Path>)
     requires fits { FitsRemovals (V.nodes view.old) paths.items }
     requires spare { vec_len paths ≤ V.spare view.old }
-    ensures { V.nodes view.new ≡ edited (V.nodes view.old) (removals paths.items) }
+    ensures nodes { V.nodes view.new ≡ edited (V.nodes view.old) (removals paths.items) }
+    ensures made { V.made view.old (removals paths.items) view.new }
 {
     let mut left = paths;
     'left: while !left.is_empty() {

@@ -9,6 +9,7 @@ abbrev pub invariant-left : goal.invariant-left
 invariant-left g l = record {
   rest : edited (g.V.View.nodes l.view) (sets (reverse l.left.items)) ≡ edited (g.V.View.nodes l.fn.view) (sets l.fn.entries.items);
   fits : FitsSets (g.V.View.nodes l.view) (reverse l.left.items);
+  made : (view : g.row.V.Denot) → g.V.View.made l.view (sets (reverse l.left.items)) view → g.V.View.made l.fn.view (sets l.fn.entries.items) view;
   spare : vec_len l.left ≤ g.V.View.spare l.view;
 }
 
