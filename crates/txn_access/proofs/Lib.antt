@@ -1,0 +1,9 @@
+pub mod CommitLemmas
+pub mod CommitNumbers
+pub mod Conflicts
+pub mod Nearest
+pub mod NextSeen
+pub mod NoteLemmas
+pub mod PlanLemmas
+pub mod Seen
+pub mod StepLemmas

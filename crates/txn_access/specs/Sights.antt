@@ -1,0 +1,13 @@
+-- What a mark shows in the place of the tree's node. This project's own.
+use Rattle.std.specs.Prelude.{Option, Some, None}
+use Rattle.xs_model.specs.Trees.{Node}
+use Rattle.mark_model.specs.Marks.{Mark, shown}
+
+abbrev pub shown_over : Option (Option Node) → Option Node → Option Node
+shown_over None under = under
+shown_over (Some node) under = node
+
+-- the node that is seen at a path, by its mark and by the node that stands in the tree
+abbrev pub seen_by : Option Mark → Option Node → Option Node
+seen_by None under = under
+seen_by (Some mark) under = shown_over (shown mark) under

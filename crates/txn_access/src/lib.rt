@@ -1,0 +1,19 @@
+//! Open transactions (xenstore.txt, "Transactions").
+//!
+//! A transaction keeps a mark at each path that matters to it, and the tree stays where it is. Contracts see a [`Txn`]
+//! as its marks, the number of its commands that wrote something, and the number of marks for which it has memory.
+#![tactic(auto)]
+
+mod commit;
+mod mark;
+mod marks;
+mod names;
+mod overlays;
+mod plan;
+#[cfg(test)]
+mod tests;
+mod txn;
+
+pub use overlays::Overlay;
+pub use plan::Plan;
+pub use txn::Txn;
