@@ -19,13 +19,15 @@ use Rattle.machine_model.proofs.LimitLemmas.{least_free-is}
 use Rattle.conn_table.specs.Tables.{Specs, ring_id, is_found_ring, is_ring_at}
 use Rattle.daemon.specs.declared.answer.Door.TheVariants.{Same, Opened, Closed}
 use Rattle.daemon.specs.declared.reply.Answer.{Answer}
-use Rattle.daemon.specs.Keeps.{conns_of}
+use Rattle.daemon.specs.Keeps.{conns_of, machine_of}
+use Rattle.daemon.specs.Rows.{opens_of}
 use Rattle.daemon.specs.Peers.{Connected, IsSound, unsent_of}
-use Rattle.daemon.specs.Acts.{machine_of, unsent_by, Opens, Closes, IsDoor, Did}
+use Rattle.daemon.specs.Acts.{unsent_by, Opens, Closes, IsDoor, DidBeside}
+use Rattle.mark_model.specs.Stores.{opens_by}
 use Rattle.daemon.proofs.KeepsLemmas.{keys_map, conns_found, conns_put, conns_without, conns_ring}
 use Rattle.daemon.proofs.FreshLemmas.{nothing_special, fresh_free}
 use Rattle.daemon.proofs.ActLemmas.{did}
-use Rattle.daemon.proofs.UnsentLemmas.{unsent_same, unsent_more, unsent_less}
+use Rattle.daemon.proofs.UnsentLemmas.{unsent_same, unsent_more, unsent_less, opens_same, opens_more, opens_less}
 
 -- WHO ASKS
 pub guest_asks : (spec : ConnSpec) (m : Machine) (done : Done) (domid : ℕ) → domid ≡ (caller_of spec).domid → domid ≢ 0 → if_control (fresh spec) m done ≡ refused Eacces m
@@ -116,12 +118,13 @@ module _ (tree : Tree) (gens : Generations) (specs : Specs) (d target : ℕ) whe
 
 -- WHAT WAS DONE, by what the code holds of it: a ring connection got another end
 module _ (c : ℕ) (tree : Tree) (gens : Generations) (peers : Connected) (sound : IsSound peers) (done : Done) (answer : Answer) (replied : answer.reply ≡ Ok ok_payload) (new : Connected) (kept : IsSound new) where
-  pub did_set : (specs : Specs) → new.specs ≡ specs → new.queues ≡ peers.queues → done ≡ granted (machine_of tree gens specs) → answer.door ≡ Same → Did c tree peers done answer tree new
-  did_set specs set queues acted door =
+  pub did_set : (specs : Specs) → new.specs ≡ specs → new.queues ≡ peers.queues → new.txns ≡ peers.txns → done ≡ granted (machine_of tree gens specs) → answer.door ≡ Same → DidBeside c peers done tree gens answer new
+  did_set specs set queues txns acted door =
       let same : map (λ e. e.0) new.specs ≡ map (λ e. e.0) peers.specs = sym kept.ids ∙ ap (map (λ e. e.0)) queues ∙ sound.ids in
       let conns_same : map (λ e. e.0) (conns_of new.specs) ≡ map (λ e. e.0) (conns_of peers.specs) = keys_map fresh new.specs ∙ same ∙ sym (keys_map fresh peers.specs) in
-      did c tree peers sound done (Ok ok_payload) answer replied tree gens new
+      did c peers sound done (Ok ok_payload) answer replied tree gens new
       (acted ∙ ap (λ es. granted (machine_of tree gens es)) (sym set))
+      (ap (λ rows. opens_of rows) txns ∙ opens_same peers sound new.specs same)
       (subst (IsDoor (conns_of peers.specs) (conns_of new.specs)) (sym door) conns_same)
       (ap (λ q. unsent_of q) queues ∙ unsent_same peers sound new.specs same) (ap (find nat_cmp c) queues) kept
 
@@ -130,8 +133,9 @@ module _ (c : ℕ) (tree : Tree) (gens : Generations) (peers : Connected) (sound
       → new.specs ≡ put nat_cmp (least_free peers.specs) (Ring d None evtchn) peers.specs
       → unsent_of new.queues ≡ put nat_cmp (least_free peers.specs) [] (unsent_of peers.queues)
       → ((other : ℕ) → (other == least_free peers.specs) ≡ false → find nat_cmp other new.queues ≡ find nat_cmp other peers.queues)
-      → done ≡ granted (machine_of tree gens (put nat_cmp (least_free peers.specs) (Ring d None evtchn) peers.specs)) → answer.door ≡ Opened d → Did c tree peers done answer tree new
-  did_open asker there d evtchn none specs bytes others acted door =
+      → new.txns ≡ put nat_cmp (least_free peers.specs) [] peers.txns
+      → done ≡ granted (machine_of tree gens (put nat_cmp (least_free peers.specs) (Ring d None evtchn) peers.specs)) → answer.door ≡ Opened d → DidBeside c peers done tree gens answer new
+  did_open asker there d evtchn none specs bytes others txns acted door =
       let id : ℕ = least_free peers.specs in
       let ring : ConnSpec = Ring d None evtchn in
       let least : IsLeastFree id peers.specs = least_free-is peers.specs sound.table.table.rising sound.table.ids in
@@ -142,8 +146,9 @@ module _ (c : ℕ) (tree : Tree) (gens : Generations) (peers : Connected) (sound
         free = conns_found id peers.specs ∙ ap (option_map fresh) least.free;
         made = ap conns_of specs ∙ sym (conns_put id ring peers.specs);
       } in
-      did c tree peers sound done (Ok ok_payload) answer replied tree gens new
+      did c peers sound done (Ok ok_payload) answer replied tree gens new
       (acted ∙ ap (λ es. granted (machine_of tree gens es)) (sym specs))
+      (ap (λ rows. opens_of rows) txns ∙ opens_more peers sound id ring least.free ∙ ap (λ es. opens_by (conns_of es) (opens_of peers.txns)) (sym specs))
       (subst (IsDoor (conns_of peers.specs) (conns_of new.specs)) (sym door) opens)
       (bytes ∙ unsent_more peers sound id ring least.free ∙ ap (λ es. unsent_by es (unsent_of peers.queues)) (sym specs))
       (others c (ne_eqb c id (λ same. taken same least.free))) kept
@@ -155,15 +160,17 @@ module _ (c : ℕ) (tree : Tree) (gens : Generations) (peers : Connected) (sound
   pub did_close : (asker : ConnSpec) → find nat_cmp c peers.specs ≡ Some asker → (caller_of asker).domid ≡ 0 → (d id : ℕ) (ring : HasRing d id peers.specs) → 0 < d → ring_id d peers.specs ≡ Some id
       → new.specs ≡ where_key nat_cmp (λ key. not (id == key)) peers.specs
       → new.queues ≡ where_key nat_cmp (λ key. not (id == key)) peers.queues
-      → done ≡ granted (machine_of tree gens (where_key nat_cmp (λ key. not (id == key)) peers.specs)) → answer.door ≡ Closed d → Did c tree peers done answer tree new
-  did_close asker there control d id ring positive found specs queues acted door =
+      → new.txns ≡ where_key nat_cmp (λ key. not (id == key)) peers.txns
+      → done ≡ granted (machine_of tree gens (where_key nat_cmp (λ key. not (id == key)) peers.specs)) → answer.door ≡ Closed d → DidBeside c peers done tree gens answer new
+  did_close asker there control d id ring positive found specs queues txns acted door =
       let closes : Closes d (conns_of peers.specs) (conns_of new.specs) = record {
         conn = id;
         was = conns_ring d peers.specs ∙ found;
         removed = ap conns_of specs ∙ sym (conns_without id peers.specs);
       } in
-      did c tree peers sound done (Ok ok_payload) answer replied tree gens new
+      did c peers sound done (Ok ok_payload) answer replied tree gens new
       (acted ∙ ap (λ es. granted (machine_of tree gens es)) (sym specs))
+      (ap (λ rows. opens_of rows) txns ∙ opens_less peers sound (λ key. not (id == key)) ∙ ap (λ es. opens_by (conns_of es) (opens_of peers.txns)) (sym specs))
       (subst (IsDoor (conns_of peers.specs) (conns_of new.specs)) (sym door) closes)
       (ap (λ q. unsent_of q) queues ∙ unsent_less peers sound (λ key. not (id == key)) ∙ ap (λ es. unsent_by es (unsent_of peers.queues)) (sym specs))
       (ap (find nat_cmp c) queues ∙ found_without c id peers.queues (ne_eqb id c (λ same. its_own same))) kept

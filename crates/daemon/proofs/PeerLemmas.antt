@@ -1,5 +1,5 @@
 -- Connections with what is unsent to each stay sound.
-use Rattle.std.proofs.Common.{◌≡◌, ℕ, ◌+◌, ◌<◌, ◌≤◌, Bool, true, false, cond, List, [], ◌∷◌, ◌++◌, length, map, drop, Some, None, is_some, refl, sym, ap, subst, ◌∙◌, arith, le_trans, le_refl, length-drop}
+use Rattle.std.proofs.Common.{◌≡◌, ℕ, ◌+◌, ◌<◌, ◌≤◌, Bool, true, false, cond, List, [], ◌∷◌, ◌++◌, length, map, drop, Option, Some, None, is_some, refl, sym, ap, subst, ◌∙◌, arith, le_trans, le_refl, length-drop}
 use Rattle.std.specs.List.{AllByRecursion}
 use Rattle.std.specs.Option.{option_map}
 use Rattle.std.specs.declared.cmp.Ordering.TheVariants.{Less, Equal, Greater}
@@ -14,7 +14,7 @@ use Rattle.out_queues.specs.Queues.{Queue}
 use Rattle.conn_table.specs.Tables.{Specs, IsTable, IsDomain, is_socket, count_sockets}
 use Rattle.conn_table.proofs.SmallLemmas.{tables_are_small}
 use Rattle.machine_model.specs.declared.bounds.TheConstants.{CROWD_LIMIT}
-use Rattle.daemon.specs.Peers.{Connected, unsent_of, IsInBounds, IsSoundTable, IsSound, HasRoom, Moves}
+use Rattle.daemon.specs.Peers.{Connected, unsent_of, IsInBounds, IsSoundTable, IsSound, HasRoom, Moves, PulledFrom}
 use Rattle.daemon.proofs.KeepsLemmas.{put_map, keys_map, same_put, same_where, same_rising, found_itself, put_again}
 
 -- UNSENT BYTES by connection
@@ -175,10 +175,11 @@ pub unsent_keys : (queues : List (ℕ × Queue)) → map (λ e. e.0) (unsent_of 
 unsent_keys queues = keys_map (λ (q : Queue). q.bytes) queues
 
 -- by the bytes that are unsent
-pub sound_by : (peers : Connected) (unsent : List (ℕ × List ℕ)) → unsent_of peers.queues ≡ unsent → IsSoundTable peers.specs → map (λ e. e.0) unsent ≡ map (λ e. e.0) peers.specs → AllByRecursion (λ e. length e.1 ≤ CROWD_LIMIT) unsent → IsSound peers
-sound_by peers unsent is table ids short = record {
+pub sound_by : (peers : Connected) (unsent : List (ℕ × List ℕ)) → unsent_of peers.queues ≡ unsent → IsSoundTable peers.specs → map (λ e. e.0) unsent ≡ map (λ e. e.0) peers.specs → map (λ e. e.0) peers.txns ≡ map (λ e. e.0) peers.specs → AllByRecursion (λ e. length e.1 ≤ CROWD_LIMIT) unsent → IsSound peers
+sound_by peers unsent is table ids rows short = record {
   table = table;
   ids = sym (unsent_keys peers.queues) ∙ ap (map (λ e. e.0)) is ∙ ids;
+  rows = rows;
   short = short_queues peers.queues (subst (AllByRecursion (λ e. length e.1 ≤ CROWD_LIMIT)) (sym is) short);
 }
 
@@ -186,61 +187,74 @@ module _ (peers : Connected) (sound : IsSound peers) where
   pub ids_unsent : map (λ e. e.0) (unsent_of peers.queues) ≡ map (λ e. e.0) peers.specs
   ids_unsent = unsent_keys peers.queues ∙ sound.ids
 
+  -- the same transactions
+  ids_txns : (new : Connected) → new.specs ≡ peers.specs → new.txns ≡ peers.txns → map (λ e. e.0) new.txns ≡ map (λ e. e.0) new.specs
+  ids_txns new specs txns = ap (map (λ e. e.0)) txns ∙ sound.rows ∙ ap (map (λ e. e.0)) (sym specs)
+
   -- the same bytes
-  pub sound_same : (new : Connected) → new.specs ≡ peers.specs → unsent_of new.queues ≡ unsent_of peers.queues → IsSound new
-  sound_same new specs bytes =
-      sound_by new (unsent_of peers.queues) bytes (subst IsSoundTable (sym specs) sound.table) (ids_unsent ∙ ap (map (λ e. e.0)) (sym specs)) (short_unsent peers.queues sound.short)
+  pub sound_same : (new : Connected) → new.specs ≡ peers.specs → new.txns ≡ peers.txns → unsent_of new.queues ≡ unsent_of peers.queues → IsSound new
+  sound_same new specs txns bytes =
+      sound_by new (unsent_of peers.queues) bytes (subst IsSoundTable (sym specs) sound.table) (ids_unsent ∙ ap (map (λ e. e.0)) (sym specs)) (ids_txns new specs txns) (short_unsent peers.queues sound.short)
 
   -- other bytes of one connection
-  pub sound_put : (new : Connected) (c : ℕ) (bytes old : List ℕ) → find nat_cmp c (unsent_of peers.queues) ≡ Some old → length bytes ≤ CROWD_LIMIT → new.specs ≡ peers.specs → unsent_of new.queues ≡ put nat_cmp c bytes (unsent_of peers.queues) → IsSound new
-  sound_put new c bytes old there fits specs is =
+  pub sound_put : (new : Connected) (c : ℕ) (bytes old : List ℕ) → find nat_cmp c (unsent_of peers.queues) ≡ Some old → length bytes ≤ CROWD_LIMIT → new.specs ≡ peers.specs → new.txns ≡ peers.txns → unsent_of new.queues ≡ put nat_cmp c bytes (unsent_of peers.queues) → IsSound new
+  sound_put new c bytes old there fits specs txns is =
       let unsent = unsent_of peers.queues in
       let rising = same_rising unsent peers.specs ids_unsent ∙ sound.table.table.rising in
       sound_by new (put nat_cmp c bytes unsent) is (subst IsSoundTable (sym specs) sound.table)
       (same_put unsent unsent refl c bytes old ∙ ap (map (λ e. e.0)) (put_again c old unsent rising there) ∙ ids_unsent ∙ ap (map (λ e. e.0)) (sym specs))
+      (ids_txns new specs txns)
       (all_put nat_cmp (λ b. length b ≤ CROWD_LIMIT) c bytes unsent fits (short_unsent peers.queues sound.short))
 
   -- without the first of them
-  pub sound_pulled : (new : Connected) (c : ℕ) (into into_new : List ℕ) (n : ℕ) → new.specs ≡ peers.specs → Moves peers.queues c into new.queues into_new n → IsSound new
-  sound_pulled new c into into_new n specs moved =
+  pub sound_pulled : (new : Connected) (c : ℕ) (into into_new : List ℕ) (n : ℕ) → new.specs ≡ peers.specs → new.txns ≡ peers.txns → Moves peers.queues c into new.queues into_new n → IsSound new
+  sound_pulled new c into into_new n specs txns moved =
       let fits = all_found nat_cmp (λ (b : List ℕ). length b ≤ CROWD_LIMIT) c (unsent_of peers.queues) moved.bytes (short_unsent peers.queues sound.short) moved.there in
-      sound_put new c (drop n moved.bytes) moved.bytes moved.there (omega (arith, length-drop n moved.bytes, fits)) specs moved.unsent
+      sound_put new c (drop n moved.bytes) moved.bytes moved.there (omega (arith, length-drop n moved.bytes, fits)) specs txns moved.unsent
 
   -- a connection more, to which nothing is unsent
-  pub sound_added : (new : Connected) (c : ℕ) (spec : ConnSpec) → IsSoundTable new.specs → new.specs ≡ put nat_cmp c spec peers.specs → unsent_of new.queues ≡ put nat_cmp c [] (unsent_of peers.queues) → IsSound new
-  sound_added new c spec table specs is =
+  pub sound_added : (new : Connected) (c : ℕ) (spec : ConnSpec) → IsSoundTable new.specs → new.specs ≡ put nat_cmp c spec peers.specs → unsent_of new.queues ≡ put nat_cmp c [] (unsent_of peers.queues) → new.txns ≡ put nat_cmp c [] peers.txns → IsSound new
+  sound_added new c spec table specs is txns =
       sound_by new (put nat_cmp c [] (unsent_of peers.queues)) is table
       (same_put (unsent_of peers.queues) peers.specs ids_unsent c [] spec ∙ ap (map (λ e. e.0)) (sym specs))
+      (ap (map (λ e. e.0)) txns ∙ same_put peers.txns peers.specs sound.rows c [] spec ∙ ap (map (λ e. e.0)) (sym specs))
       (all_put nat_cmp (λ b. length b ≤ CROWD_LIMIT) c [] (unsent_of peers.queues) (omega arith) (short_unsent peers.queues sound.short))
 
   -- without one
-  pub sound_without : (p : ℕ → Bool) → IsTable (where_key nat_cmp p peers.specs) → IsSound (record { specs = where_key nat_cmp p peers.specs; queues = where_key nat_cmp p peers.queues })
+  pub sound_without : (p : ℕ → Bool) → IsTable (where_key nat_cmp p peers.specs) → IsSound (record { specs = where_key nat_cmp p peers.specs; queues = where_key nat_cmp p peers.queues; txns = where_key nat_cmp p peers.txns })
   sound_without p table = record {
     table = table_without peers.specs sound.table p table;
     ids = same_where peers.queues peers.specs sound.ids p;
+    rows = same_where peers.txns peers.specs sound.rows p;
     short = all_where nat_cmp (λ (q : Queue). length q.bytes ≤ CROWD_LIMIT) p peers.queues sound.short;
   }
 
   -- with another end of one of them
-  pub sound_changed : (c : ℕ) (old spec : ConnSpec) → find nat_cmp c peers.specs ≡ Some old → IsSoundTable (put nat_cmp c spec peers.specs) → IsSound (record { specs = put nat_cmp c spec peers.specs; queues = peers.queues })
+  pub sound_changed : (c : ℕ) (old spec : ConnSpec) → find nat_cmp c peers.specs ≡ Some old → IsSoundTable (put nat_cmp c spec peers.specs) → IsSound (record { specs = put nat_cmp c spec peers.specs; queues = peers.queues; txns = peers.txns })
   sound_changed c old spec there table = record {
     table = table;
     ids = sound.ids ∙ ap (map (λ e. e.0)) (sym (put_again c old peers.specs sound.table.table.rising there)) ∙ same_put peers.specs peers.specs refl c old spec;
+    rows = sound.rows ∙ ap (map (λ e. e.0)) (sym (put_again c old peers.specs sound.table.table.rising there)) ∙ same_put peers.specs peers.specs refl c old spec;
     short = sound.short;
   }
 
-  pub evtchn_sound : (evtchn c : ℕ) (old spec : ConnSpec) (new : Specs) → find nat_cmp c peers.specs ≡ Some old → spec ≡ with_evtchn evtchn old → new ≡ put nat_cmp c spec peers.specs → IsTable new → IsSound (record { specs = new; queues = peers.queues })
+  pub evtchn_sound : (evtchn c : ℕ) (old spec : ConnSpec) (new : Specs) → find nat_cmp c peers.specs ≡ Some old → spec ≡ with_evtchn evtchn old → new ≡ put nat_cmp c spec peers.specs → IsTable new → IsSound (record { specs = new; queues = peers.queues; txns = peers.txns })
   evtchn_sound evtchn c old spec new there is puts table =
       let puts_it : new ≡ put nat_cmp c (with_evtchn evtchn old) peers.specs = puts ∙ ap (λ s. put nat_cmp c s peers.specs) is in
-      subst (λ n. IsSound (record { specs = n; queues = peers.queues })) (sym puts_it)
+      subst (λ n. IsSound (record { specs = n; queues = peers.queues; txns = peers.txns })) (sym puts_it)
       (sound_changed c old (with_evtchn evtchn old) there (evtchn_changed peers.specs sound.table evtchn c old there (subst IsTable puts_it table)))
 
-  pub target_sound : (target c : ℕ) → target ≤ 32751 → (old spec : ConnSpec) (new : Specs) → find nat_cmp c peers.specs ≡ Some old → spec ≡ with_target target old → new ≡ put nat_cmp c spec peers.specs → IsTable new → IsSound (record { specs = new; queues = peers.queues })
+  pub target_sound : (target c : ℕ) → target ≤ 32751 → (old spec : ConnSpec) (new : Specs) → find nat_cmp c peers.specs ≡ Some old → spec ≡ with_target target old → new ≡ put nat_cmp c spec peers.specs → IsTable new → IsSound (record { specs = new; queues = peers.queues; txns = peers.txns })
   target_sound target c domain old spec new there is puts table =
       let puts_it : new ≡ put nat_cmp c (with_target target old) peers.specs = puts ∙ ap (λ s. put nat_cmp c s peers.specs) is in
-      subst (λ n. IsSound (record { specs = n; queues = peers.queues })) (sym puts_it)
+      subst (λ n. IsSound (record { specs = n; queues = peers.queues; txns = peers.txns })) (sym puts_it)
       (sound_changed c old (with_target target old) there (target_changed peers.specs sound.table target c domain old there (subst IsTable puts_it table)))
 
 -- what was set, where the connection was found
 pub set_there : (found : Bool) (c : ℕ) (old spec : ConnSpec) (specs new : Specs) → find nat_cmp c specs ≡ Some old → found ≡ is_some (find nat_cmp c specs) → new ≡ cond found (put nat_cmp c spec specs) specs → new ≡ put nat_cmp c spec specs
 set_there found c old spec specs new there is after = after ∙ ap (λ b. cond b (put nat_cmp c spec specs) specs) (is ∙ ap is_some there)
+
+-- after a pull, whether the connection was there or not
+pub sound_after_pull : (peers : Connected) → IsSound peers → (new : Connected) (c : ℕ) (into into_new : List ℕ) (r : Option ℕ) → new.specs ≡ peers.specs → new.txns ≡ peers.txns → PulledFrom peers.queues c into new.queues into_new r → IsSound new
+sound_after_pull peers sound new c into into_new None specs txns pulled = sound_same peers sound new specs txns (ap unsent_of pulled.1.0)
+sound_after_pull peers sound new c into into_new (Some n) specs txns pulled = sound_pulled peers sound new c into into_new n specs txns pulled

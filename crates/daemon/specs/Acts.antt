@@ -5,25 +5,36 @@ use Rattle.std.specs.FinMap.{find, put}
 use Rattle.std.specs.FinMap.Entries.{where_key}
 use Rattle.machine_model.specs.declared.ConnSpec.TheVariants.{Ring}
 use Rattle.machine_model.specs.Connections.{Connections, fresh, ring_of}
-use Rattle.machine_model.specs.Machine.{Machine, Done}
+use Rattle.machine_model.specs.Machine.{Done}
+use Rattle.mark_model.specs.Stores.{KeptDone, IsKeptStore, opens_by}
 use Rattle.machine_model.specs.History.{Unsent, unsent_to}
-use Rattle.xs_model.specs.Generations.{Generations}
+use Rattle.xs_model.specs.Generations.{Generations, greatest}
 use Rattle.xs_model.specs.Trees.{Tree}
 use Rattle.conn_table.specs.Tables.{Specs}
 use Rattle.xs_model.specs.Wholes.{whole_behind}
 use Rattle.daemon.specs.declared.answer.Door.{Door}
 use Rattle.daemon.specs.declared.answer.Door.TheVariants.{Same, Opened, Closed}
 use Rattle.daemon.specs.declared.reply.Answer.{Answer}
-use Rattle.daemon.specs.Keeps.{Kept, conns_of}
+use Rattle.node_tree.specs.KeptTree.{KeptTree}
+use Rattle.daemon.specs.Keeps.{Kept, conns_of, machine_of, store_of}
+use Rattle.daemon.specs.Rows.{opens_of}
 use Rattle.daemon.specs.Peers.{Connected, IsSound, unsent_of}
 
--- the store with a tree, its numbers, and the connections of a table
-abbrev pub machine_of : Tree → Generations → Specs → Machine
-machine_of tree gens specs = record { tree = tree; gens = gens; conns = conns_of specs }
-
 -- what a daemon keeps, by its tree and its connections
-abbrev pub kept_of : Tree → Connected → Kept
-kept_of tree peers = record { tree = tree; specs = peers.specs; unsent = unsent_of peers.queues }
+abbrev pub kept_by : KeptTree → Connected → Kept
+kept_by tree peers = record {
+  tree = tree.nodes;
+  gens = tree.gens;
+  specs = peers.specs;
+  opens = opens_of peers.txns;
+  unsent = unsent_of peers.queues;
+}
+
+-- it is of the kind that steps keep, and the next number is counted from the greatest
+pub record IsWhole (tree : KeptTree) (peers : Connected) : Type 0 where
+  pub sound : IsSound peers
+  pub store : IsKeptStore (store_of (kept_by tree peers))
+  pub counter : tree.counter ≡ greatest tree.gens
 
 -- A DOOR: the ring connection of a domain that came
 pub record Opens (d : ℕ) (before after : Connections) : Type 0 where
@@ -50,17 +61,33 @@ abbrev pub unsent_by : Specs → Unsent → Unsent
 unsent_by specs unsent = map (λ e. (e.0, unsent_to e.0 unsent)) specs
 
 -- WHAT A REQUEST of the connection c did: what the definition says, and what is unsent to the connections that stay is
--- as it was. The numbers of paths are not kept yet: nothing that is served shows them.
-pub record Did (c : ℕ) (tree : Tree) (peers : Connected) (done : Done) (answer : Answer) (tree_new : Tree) (peers_new : Connected) : Type 0 where
+-- as it was
+pub record Did (c : ℕ) (tree : KeptTree) (peers : Connected) (done : KeptDone) (answer : Answer) (tree_new : KeptTree) (peers_new : Connected) : Type 0 where
   pub reply : answer.reply ≡ done.reply
-  pub gens : Generations
-  pub machine : done.machine ≡ machine_of tree_new gens peers_new.specs
+  pub store : done.store ≡ store_of (kept_by tree_new peers_new)
   pub sends : done.sends ≡ []
+  pub counter : tree_new.counter ≡ greatest tree_new.gens
   pub door : IsDoor (conns_of peers.specs) (conns_of peers_new.specs) answer.door
   pub unsent : unsent_of peers_new.queues ≡ unsent_by peers_new.specs (unsent_of peers.queues)
   -- with the memory that was taken for the reply
   pub asker : find nat_cmp c peers_new.queues ≡ find nat_cmp c peers.queues
   pub sound : IsSound peers_new
+
+-- what a request on domains did, in the store without transactions; those of the connections that stay stay open
+pub record DidBeside (c : ℕ) (peers : Connected) (done : Done) (tree : Tree) (gens : Generations) (answer : Answer) (peers_new : Connected) : Type 0 where
+  pub reply : answer.reply ≡ done.reply
+  pub machine : done.machine ≡ machine_of tree gens peers_new.specs
+  pub sends : done.sends ≡ []
+  pub opens : opens_of peers_new.txns ≡ opens_by (conns_of peers_new.specs) (opens_of peers.txns)
+  pub door : IsDoor (conns_of peers.specs) (conns_of peers_new.specs) answer.door
+  pub unsent : unsent_of peers_new.queues ≡ unsent_by peers_new.specs (unsent_of peers.queues)
+  pub asker : find nat_cmp c peers_new.queues ≡ find nat_cmp c peers.queues
+  pub sound : IsSound peers_new
+
+-- nothing has changed but memory
+abbrev pub IsAsBefore : KeptTree → Connected → KeptTree → Connected → Type 0
+IsAsBefore tree peers tree_new peers_new =
+    (kept_by tree_new peers_new ≡ kept_by tree peers) × (tree_new.counter ≡ tree.counter)
 
 -- so many bytes has a message at the most: its header has 16, and its payload 4096
 abbrev pub message_limit : ℕ

@@ -1,5 +1,9 @@
+pub mod Built
 pub mod Keeps
 pub mod Peers
+pub mod Rows
 pub mod Acts
-pub mod Parts
+pub mod Changes
+pub mod Commands
+pub mod Served
 pub mod Submits

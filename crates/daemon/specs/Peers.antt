@@ -1,4 +1,4 @@
--- The connections, with what is unsent to each. This project's own.
+-- The connections, with what is unsent to each and its open transactions. This project's own.
 use Rattle.std.specs.Prelude.{◌≡◌, ℕ, ◌≤◌, ◌++◌, List, map, min, take, drop, length, Option, Some, None, IfSome, ⊤}
 use Rattle.std.specs.List.{AllByRecursion}
 use Rattle.std.specs.Ordering.{nat_cmp}
@@ -8,10 +8,12 @@ use Rattle.machine_model.specs.declared.ConnSpec.{ConnSpec}
 use Rattle.machine_model.specs.declared.ConnSpec.TheVariants.{Ring, Socket}
 use Rattle.out_queues.specs.Queues.{Queue}
 use Rattle.conn_table.specs.Tables.{Specs, IsTable, count_sockets}
+use Rattle.daemon.specs.Rows.{Txns}
 
 pub record Connected : Type 0 where
   pub specs : Specs
   pub queues : List (ℕ × Queue)
+  pub txns : List (ℕ × Txns)
 
 -- the bytes that wait in queues
 abbrev pub unsent_of : List (ℕ × Queue) → List (ℕ × List ℕ)
@@ -33,10 +35,11 @@ pub record IsSoundTable (specs : Specs) : Type 0 where
   pub bounds : AllByRecursion (λ e. IsInBounds e.1) specs
   pub sockets : count_sockets specs ≤ 65536
 
--- what every daemon keeps of its connections: a queue for each and no other, none of which is too long
+-- what every daemon keeps of its connections: a row for each and no other, no queue of which is too long
 pub record IsSound (peers : Connected) : Type 0 where
   pub table : IsSoundTable peers.specs
   pub ids : map (λ e. e.0) peers.queues ≡ map (λ e. e.0) peers.specs
+  pub rows : map (λ e. e.0) peers.txns ≡ map (λ e. e.0) peers.specs
   pub short : AllByRecursion (λ e. length e.1.bytes ≤ CROWD_LIMIT) peers.queues
 
 -- the first bytes of a queue were moved into a place, as many as there are and as find room

@@ -1,23 +1,46 @@
 -- What comes of a request that is handed to a daemon, and of the bytes that leave it. This project's own; one request is
 -- one step of the sequential store.
-use Rattle.std.specs.Prelude.{◌≡◌, ℕ, ◌<◌, ◌≤◌, ◌==◌, not, List, [], ◌∷◌, ◌++◌, length, take, drop, map, min, nat_lt, if◌then◌else◌, Option, Some, None}
+use Rattle.std.specs.Prelude.{◌≡◌, ℕ, ◌<◌, ◌≤◌, ◌==◌, not, List, [], ◌++◌, length, take, drop, min, Some, None}
 use Rattle.std.specs.Ordering.{nat_cmp}
 use Rattle.std.specs.FinMap.{find, put}
 use Rattle.std.specs.FinMap.Entries.{where_key}
 use Rattle.machine_model.specs.declared.bounds.TheConstants.{HELD_LIMIT}
 use Rattle.machine_model.specs.declared.ConnSpec.{ConnSpec}
 use Rattle.machine_model.specs.Connections.{fresh}
-use Rattle.machine_model.specs.Machine.{Machine, Asked, Lost, built_step, step_with, with_conn}
+use Rattle.machine_model.specs.Machine.{Machine, Asked, Lost, Step, step_with, with_conn}
+use Rattle.daemon.specs.Built.{built_types, built_step}
+use Rattle.mark_model.specs.Stores.{KeptStore, kept_step}
 use Rattle.machine_model.specs.History.{unsent_after, crowded}
 use Rattle.daemon.specs.declared.answer.Door.{Door}
 use Rattle.daemon.specs.declared.answer.Submit.{Submit}
 use Rattle.daemon.specs.declared.answer.Submit.TheVariants as submit
 use Rattle.daemon.specs.declared.answer.Pull.{Pull}
 use Rattle.daemon.specs.declared.answer.Pull.TheVariants as pull
-use Rattle.daemon.specs.Keeps.{Kept, StandsFor}
+use Rattle.daemon.specs.Keeps.{Kept, conns_of, store_of, StandsFor}
 use Rattle.daemon.specs.Acts.{IsDoor}
 
--- A REQUEST is taken where its connection has few unsent bytes and nobody would have too many
+-- ONE STEP of the store that is kept, as the store without transactions after it, and what is sent
+abbrev pub kept_after : Kept → ℕ → List ℕ → KeptStore
+kept_after old c message = (kept_step built_types (store_of old) (Asked c message)).0
+
+abbrev pub stepped : Kept → ℕ → List ℕ → Step
+stepped old c message = ((kept_after old c message).machine, (kept_step built_types (store_of old) (Asked c message)).1)
+
+-- A request that is done is this step: what is kept after it is a function of what was kept, and of the request
+pub record Steps (old : Kept) (c : ℕ) (message : List ℕ) (told : Door) (new : Kept) : Type 0 where
+  pub store : store_of new ≡ kept_after old c message
+  pub unsent : new.unsent ≡ unsent_after (stepped old c message) old.unsent
+  pub uncrowded : crowded (unsent_after (stepped old c message) old.unsent) ≡ None
+  pub door : IsDoor (conns_of old.specs) (conns_of new.specs) told
+
+abbrev pub StepsIfDone : Kept → ℕ → List ℕ → Kept → Submit → Type 0
+StepsIfDone old c message new (submit.Done door) = Steps old c message door new
+StepsIfDone old c message new (submit.Held n) = new ≡ old
+StepsIfDone old c message new (submit.Crowded d) = new ≡ old
+StepsIfDone old c message new submit.Gone = new ≡ old
+
+-- FOR EACH STORE that the daemon stands for: a request is taken where its connection has few unsent bytes and nobody
+-- would have too many
 pub record Takes (old : Kept) (m : Machine) (c : ℕ) (message : List ℕ) (told : Door) (new : Kept) : Type 0 where
   pub bytes : List ℕ
   pub there : find nat_cmp c old.unsent ≡ Some bytes
@@ -67,9 +90,13 @@ Pulled old c into new into_new pull.Gone = (find nat_cmp c old.unsent ≡ None) 
 -- A CONNECTION IS ADDED, without watches and transactions, and nothing is unsent to it
 pub record Adds (old : Kept) (c : ℕ) (spec : ConnSpec) (new : Kept) : Type 0 where
   pub unsent : new.unsent ≡ put nat_cmp c [] old.unsent
+  pub specs : new.specs ≡ put nat_cmp c spec old.specs
+  pub opens : new.opens ≡ put nat_cmp c [] old.opens
+  pub tree : (new.tree ≡ old.tree) × (new.gens ≡ old.gens)
   pub stands : (m : Machine) → StandsFor old m → StandsFor new (with_conn c (fresh spec) m)
 
 -- A CONNECTION IS LOST, with its unsent bytes; every other one stays as it is
 pub record Drops (old : Kept) (c : ℕ) (new : Kept) : Type 0 where
   pub unsent : new.unsent ≡ where_key nat_cmp (λ d. not (c == d)) old.unsent
+  pub store : store_of new ≡ (kept_step [] (store_of old) (Lost c)).0
   pub stands : (m : Machine) → StandsFor old m → StandsFor new (step_with [] m (Lost c)).0

@@ -3,22 +3,21 @@
 ghost use Rattle.std.specs.Prelude.{◌≡◌, ◌≤◌, length, Some, IfOk, OnErr};
 ghost use Rattle.std.specs.Ordering.{nat_cmp};
 ghost use Rattle.std.specs.FinMap.{find};
-ghost use Rattle.xs_model.specs.Generations.{Generations};
 ghost use Rattle.xs_model.specs.Requests.{request_of};
-ghost use Rattle.machine_model.specs.Machine.{built_types};
+ghost use Rattle.daemon.specs.Built.{built_types};
 ghost use Rattle.machine_model.specs.Connections.{caller_of, fresh};
-ghost use Rattle.machine_model.specs.Machine.{act, act_or_refuse};
-ghost use Rattle.wire_codec.specs.Codec.{AsksInForm, IsInForm, request_view, operation_of};
-ghost use Rattle.daemon.specs.Acts.{machine_of, Did};
-ghost use Rattle.daemon.specs.Parts.{IsNoPart, IsWhole};
-ghost use Rattle.daemon.specs.Peers.{IsSound};
+ghost use Rattle.mark_model.specs.Stores.{kept_act, kept_act_or_refuse};
+ghost use Rattle.wire_codec.specs.Codec.{AsksInForm, request_view};
+ghost use Rattle.daemon.specs.Acts.{Did, IsAsBefore, IsWhole, kept_by};
+ghost use Rattle.daemon.specs.Keeps.{store_of};
+ghost use Rattle.daemon.specs.Served.{IsServed, is_on_watches};
 
 use crate::domains::{self, Asker};
 use crate::peers::Peers;
 use crate::reply::Answer;
+use crate::{commands, transactions};
 use node_tree::Tree;
 use std::alloc::Global;
-use tree_ops::run;
 use wire_codec::{Header, Request, RequestErr, TreeCommand, WireErr, read_request};
 use xs_base::NoMemory;
 use xs_model::message::kind;
@@ -32,17 +31,16 @@ pub fn answer(
     head: Header,
     payload: &[u8],
 ) -> Result<Answer, NoMemory>
-    requires sound { IsSound peers.old }
+    requires whole { IsWhole tree.old peers.old }
     requires there { find nat_cmp asker.conn peers.old.specs ≡ Some asker.spec }
-    ensures ok { IfOk result (λ answer. (gens : Generations) → Did asker.conn tree.old.nodes peers.old
-        (act_or_refuse (machine_of tree.old.nodes gens peers.old.specs) asker.conn (fresh asker.spec) head.tx_id (request_of built_types head.kind payload.now (caller_of asker.spec).domid))
-        answer tree.new.nodes peers.new) }
+    ensures ok { IfOk result (λ answer. Did asker.conn tree.old peers.old
+        (kept_act_or_refuse (store_of (kept_by tree.old peers.old)) asker.conn (fresh asker.spec) head.tx_id (request_of built_types head.kind payload.now (caller_of asker.spec).domid))
+        answer tree.new peers.new) }
     ensures short { IfOk result (λ answer. IfOk answer.reply (λ payload. length payload ≤ 4096)) }
-    ensures tree_err { OnErr result (tree.new.nodes ≡ tree.old.nodes) }
-    ensures peers_err { OnErr result (peers.new ≡ peers.old) }
+    ensures err { OnErr result (IsAsBefore tree.old peers.old tree.new peers.new) }
 {
-    // A part of a list is not served yet.
-    if head.kind == kind::DIRECTORY_PART {
+    // Watches are not served yet.
+    if is_on_watches(head.kind) {
         return Ok(Answer::refused(WireErr::Enosys));
     }
     match read_request(alloc, head, payload, asker.domid()) {
@@ -51,6 +49,13 @@ pub fn answer(
         Err(RequestErr::Einval) => Ok(Answer::refused(WireErr::Einval)),
         Ok(request) => act(alloc, tree, peers, asker, head.tx_id, &request),
     }
+}
+
+/// Whether a message type is of a request on watches.
+fn is_on_watches(kind: u32) -> bool
+    ensures { result ≡ is_on_watches kind }
+{
+    kind == kind::WATCH || kind == kind::UNWATCH || kind == kind::RESET_WATCHES
 }
 
 /// What a request by itself is answered, under a transaction number.
@@ -62,19 +67,20 @@ fn act(
     tx_id: u32,
     request: &Request,
 ) -> Result<Answer, NoMemory>
-    requires sound { IsSound peers.old }
+    requires whole { IsWhole tree.old peers.old }
     requires there { find nat_cmp asker.conn peers.old.specs ≡ Some asker.spec }
     requires form { AsksInForm request.now }
-    requires whole { IsNoPart (request_view request.now) }
-    ensures ok { IfOk result (λ answer. (gens : Generations) → Did asker.conn tree.old.nodes peers.old
-        (act (machine_of tree.old.nodes gens peers.old.specs) asker.conn (fresh asker.spec) tx_id (request_view request.now))
-        answer tree.new.nodes peers.new) }
+    requires served { IsServed (request_view request.now) }
+    ensures ok { IfOk result (λ answer. Did asker.conn tree.old peers.old
+        (kept_act (store_of (kept_by tree.old peers.old)) asker.conn (fresh asker.spec) tx_id (request_view request.now))
+        answer tree.new peers.new) }
     ensures short { IfOk result (λ answer. IfOk answer.reply (λ payload. length payload ≤ 4096)) }
-    ensures tree_err { OnErr result (tree.new.nodes ≡ tree.old.nodes) }
-    ensures peers_err { OnErr result (peers.new ≡ peers.old) }
+    ensures err { OnErr result (IsAsBefore tree.old peers.old tree.new peers.new) }
 {
     match request {
-        Request::Command(command) => act_on_tree(alloc, tree, peers, asker, tx_id, command),
+        Request::Command(command) => on_tree(alloc, tree, peers, asker, tx_id, command),
+        Request::Start => transactions::start(alloc, peers, asker, tx_id),
+        Request::End { commit } => transactions::end(alloc, tree, peers, asker, tx_id, *commit),
         Request::Introduce { domid, evtchn } => {
             domains::introduce(alloc, peers, asker, *domid, *evtchn)
         }
@@ -87,30 +93,31 @@ fn act(
         Request::SetTarget { domid, target } => {
             domains::set_target(alloc, peers, asker, *domid, *target)
         }
+        Request::Watch { .. } | Request::Unwatch { .. } | Request::ResetWatches => unreachable!(),
     }
 }
 
-/// What a tree command is answered. No transaction is open, so that one in a transaction is refused.
-fn act_on_tree(
+/// What a tree command is answered.
+fn on_tree(
     alloc: Global,
     tree: &mut Tree,
-    peers: &Peers,
+    peers: &mut Peers,
     asker: Asker,
     tx_id: u32,
     command: &TreeCommand,
 ) -> Result<Answer, NoMemory>
-    requires sound { IsSound peers.now }
-    requires form { IsInForm command.now }
-    requires whole { IsWhole (operation_of command.now.op) }
-    ensures ok { IfOk result (λ answer. (gens : Generations) → Did asker.conn tree.old.nodes peers.now
-        (act (machine_of tree.old.nodes gens peers.now.specs) asker.conn (fresh asker.spec) tx_id (request_view (Request.Command command.now)))
-        answer tree.new.nodes peers.now) }
+    requires whole { IsWhole tree.old peers.old }
+    requires there { find nat_cmp asker.conn peers.old.specs ≡ Some asker.spec }
+    requires form { AsksInForm (Request.Command command.now) }
+    ensures ok { IfOk result (λ answer. Did asker.conn tree.old peers.old
+        (kept_act (store_of (kept_by tree.old peers.old)) asker.conn (fresh asker.spec) tx_id (request_view (Request.Command command.now)))
+        answer tree.new peers.new) }
     ensures short { IfOk result (λ answer. IfOk answer.reply (λ payload. length payload ≤ 4096)) }
-    ensures err { OnErr result (tree.new.nodes ≡ tree.old.nodes) }
+    ensures err { OnErr result (IsAsBefore tree.old peers.old tree.new peers.new) }
 {
-    if tx_id != 0 {
-        return Ok(Answer::refused(WireErr::Enoent));
+    if tx_id == 0 {
+        commands::outside(alloc, tree, peers, asker, command)
+    } else {
+        commands::inside(alloc, tree, peers, asker, tx_id, command)
     }
-    let did = run(alloc, command, asker.domid(), asker.target(), 0, tree)?;
-    Ok(Answer::of_reply(did.reply))
 }

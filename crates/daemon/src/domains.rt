@@ -11,7 +11,8 @@ ghost use Rattle.xs_model.specs.Trees.{Tree};
 ghost use Rattle.machine_model.specs.Connections.{caller_of, fresh};
 ghost use Rattle.machine_model.specs.Machine.{act, introduced_payload};
 ghost use Rattle.conn_table.specs.Tables.{ring_id};
-ghost use Rattle.daemon.specs.Acts.{machine_of, Did};
+ghost use Rattle.daemon.specs.Acts.{DidBeside};
+ghost use Rattle.daemon.specs.Keeps.{machine_of};
 ghost use Rattle.daemon.specs.Peers.{IsSound};
 
 use crate::answer::Door;
@@ -23,7 +24,7 @@ use wire_codec::WireErr;
 use xs_base::{Bytes, NoMemory, push_decimal};
 
 /// The payload of a success without data.
-const DONE: &[u8] = b"OK\0";
+pub const DONE: &[u8] = b"OK\0";
 
 /// Who asks: a connection, and its other end.
 #[derive(Clone, Copy)]
@@ -66,7 +67,7 @@ pub fn introduce(
     requires there { find nat_cmp asker.conn peers.old.specs ≡ Some asker.spec }
     requires bound { domid ≤ 32751 }
     ensures ok { IfOk result (λ answer. (tree : Tree) (gens : Generations) (tx : ℕ)
-        → Did asker.conn tree peers.old (act (machine_of tree gens peers.old.specs) asker.conn (fresh asker.spec) tx (model.Introduce domid evtchn)) answer tree peers.new) }
+        → DidBeside asker.conn peers.old (act (machine_of tree gens peers.old.specs) asker.conn (fresh asker.spec) tx (model.Introduce domid evtchn)) tree gens answer peers.new) }
     ensures short { IfOk result (λ answer. IfOk answer.reply (λ payload. length payload ≤ 4096)) }
     ensures err { OnErr result (peers.new ≡ peers.old) }
 {
@@ -96,7 +97,7 @@ pub fn release(
     requires there { find nat_cmp asker.conn peers.old.specs ≡ Some asker.spec }
     requires not_control { 0 < domid }
     ensures ok { IfOk result (λ answer. (tree : Tree) (gens : Generations) (tx : ℕ)
-        → Did asker.conn tree peers.old (act (machine_of tree gens peers.old.specs) asker.conn (fresh asker.spec) tx (model.Release domid)) answer tree peers.new) }
+        → DidBeside asker.conn peers.old (act (machine_of tree gens peers.old.specs) asker.conn (fresh asker.spec) tx (model.Release domid)) tree gens answer peers.new) }
     ensures short { IfOk result (λ answer. IfOk answer.reply (λ payload. length payload ≤ 4096)) }
     ensures err { OnErr result (peers.new ≡ peers.old) }
 {
@@ -126,7 +127,7 @@ pub fn set_target(
     requires there { find nat_cmp asker.conn peers.old.specs ≡ Some asker.spec }
     requires bound { target ≤ 32751 }
     ensures ok { IfOk result (λ answer. (tree : Tree) (gens : Generations) (tx : ℕ)
-        → Did asker.conn tree peers.old (act (machine_of tree gens peers.old.specs) asker.conn (fresh asker.spec) tx (model.SetTarget domid target)) answer tree peers.new) }
+        → DidBeside asker.conn peers.old (act (machine_of tree gens peers.old.specs) asker.conn (fresh asker.spec) tx (model.SetTarget domid target)) tree gens answer peers.new) }
     ensures short { IfOk result (λ answer. IfOk answer.reply (λ payload. length payload ≤ 4096)) }
     ensures err { OnErr result (peers.new ≡ peers.old) }
 {

@@ -5,17 +5,26 @@
 //! [`Daemon::pull`] moves these out in pieces of any length. A contract speaks of each store that the daemon
 //! stands for.
 //!
-//! Today the requests are the seven tree commands outside of transactions, and the requests on domains.
+//! A transaction is kept as marks (`mark_model`), so that contracts see the daemon as the store that is kept, and a request
+//! as one step of it; [`laws`] has that its commits are serial.
+//!
+//! Today the requests are the eight tree commands, those on transactions, and those on domains.
 #![tactic(auto)]
 
 mod act;
 mod answer;
+mod change;
+mod commands;
 mod domains;
+pub mod laws;
 mod peers;
 mod reply;
+mod row;
+mod rows;
 mod service;
 #[cfg(test)]
 mod tests;
+mod transactions;
 
 pub use answer::{Door, Pull, Submit};
 pub use conn_table::{AddErr, ConnSpec, Conns};

@@ -11,9 +11,8 @@ ghost use Rattle.machine_model.specs.Connections.{with_evtchn, with_target, fres
 ghost use Rattle.conn_table.specs.Tables.{IsTable, ring_id, ring_domid, is_taken, has_its_ring, is_socket, count_sockets};
 ghost use Rattle.daemon.specs.Peers.{Connected, HasRoom, IsInBounds, IsSound, PulledFrom, unsent_of};
 
+use crate::rows::Rows;
 use conn_table::{AddErr, ConnSpec, Conns};
-use id_map::IdMap;
-use out_queues::OutQueue;
 use std::alloc::Global;
 use std::marker::Model;
 use xs_base::NoMemory;
@@ -24,9 +23,8 @@ use xs_base::NoMemory;
 /// calls that edit them.
 #[derive(Drop)]
 pub struct Peers {
-    alloc: Global,
-    conns: Conns,
-    rows: IdMap<OutQueue>,
+    pub(crate) conns: Conns,
+    pub(crate) rows: Rows,
 }
 
 impl Model for Peers {
@@ -34,7 +32,7 @@ impl Model for Peers {
 
     ghost Value = { Connected };
 
-    ghost view = { λ peers. record { specs = peers.conns; queues = peers.rows.entries } };
+    ghost view = { λ peers. record { specs = peers.conns; queues = peers.rows.queues; txns = peers.rows.txns } };
 }
 
 impl Peers {
@@ -42,11 +40,11 @@ impl Peers {
     pub fn new(alloc: Global) -> Peers
         ensures specs { result.specs ≡ [] }
         ensures queues { result.queues ≡ [] }
+        ensures txns { result.txns ≡ [] }
     {
         Peers {
-            alloc,
             conns: Conns::empty(alloc),
-            rows: IdMap::new(alloc),
+            rows: Rows::new(alloc),
         }
     }
 
@@ -61,7 +59,7 @@ impl Peers {
     pub fn unsent(&self, conn: u32) -> Option<usize>
         ensures { result ≡ option_map (λ queue. length queue.bytes) (find nat_cmp conn self.now.queues) }
     {
-        self.rows.get(conn).map(OutQueue::unsent)
+        self.rows.unsent(conn)
     }
 
     /// Adds a connection to which nothing is unsent. Refused, nothing has changed. It moves the connections of higher
@@ -70,6 +68,7 @@ impl Peers {
         ensures specs { OnOk result (self.new.specs ≡ put nat_cmp conn spec self.old.specs) }
         ensures bytes { OnOk result (unsent_of self.new.queues ≡ put nat_cmp conn [] (unsent_of self.old.queues)) }
         ensures others { OnOk result ((other : ℕ) → (other == conn) ≡ false → find nat_cmp other self.new.queues ≡ find nat_cmp other self.old.queues) }
+        ensures txns { OnOk result (self.new.txns ≡ put nat_cmp conn [] self.old.txns) }
         ensures err { OnErr result (self.new ≡ self.old) }
         ensures taken { IsErrOf result AddErr.Taken ↔ (is_taken conn spec self.old.specs ≡ true) }
         ensures table { OnOk result (IsTable self.new.specs) }
@@ -78,9 +77,9 @@ impl Peers {
         if is_taken(&self.conns, conn, spec) {
             return Err(AddErr::Taken);
         }
-        self.rows.reserve(1)?;
+        self.rows.reserve()?;
         self.conns.add(conn, spec)?;
-        self.rows.put(conn, OutQueue::new(self.alloc));
+        self.rows.add(conn);
         Ok(())
     }
 
@@ -92,6 +91,7 @@ impl Peers {
         ensures specs { OnOk result (self.new.specs ≡ put nat_cmp (least_free self.old.specs) (ConnSpec.Ring domid None evtchn) self.old.specs) }
         ensures bytes { OnOk result (unsent_of self.new.queues ≡ put nat_cmp (least_free self.old.specs) [] (unsent_of self.old.queues)) }
         ensures others { OnOk result ((other : ℕ) → (other == least_free self.old.specs) ≡ false → find nat_cmp other self.new.queues ≡ find nat_cmp other self.old.queues) }
+        ensures txns { OnOk result (self.new.txns ≡ put nat_cmp (least_free self.old.specs) [] self.old.txns) }
         ensures err { OnErr result (self.new ≡ self.old) }
         ensures table { IsTable self.new.specs }
         ensures sound { OnOk result (domid ≤ 32751 → IsSound self.new) }
@@ -114,6 +114,7 @@ impl Peers {
         ensures specs { (spec : ConnSpec) → find nat_cmp conn self.old.specs ≡ Some spec → self.new.specs ≡ put nat_cmp conn (with_evtchn evtchn spec) self.old.specs }
         ensures absent { find nat_cmp conn self.old.specs ≡ None → self.new ≡ self.old }
         ensures queues { self.new.queues ≡ self.old.queues }
+        ensures txns { self.new.txns ≡ self.old.txns }
         ensures table { IsTable self.new.specs }
         ensures sound { IsSound self.old → IsSound self.new }
     {
@@ -127,6 +128,7 @@ impl Peers {
         ensures specs { (spec : ConnSpec) → find nat_cmp conn self.old.specs ≡ Some spec → self.new.specs ≡ put nat_cmp conn (with_target target spec) self.old.specs }
         ensures absent { find nat_cmp conn self.old.specs ≡ None → self.new ≡ self.old }
         ensures queues { self.new.queues ≡ self.old.queues }
+        ensures txns { self.new.txns ≡ self.old.txns }
         ensures table { IsTable self.new.specs }
         ensures sound { IsSound self.old → target ≤ 32751 → IsSound self.new }
     {
@@ -141,6 +143,7 @@ impl Peers {
         ensures found { result ≡ is_some (find nat_cmp conn self.old.specs) }
         ensures specs { self.new.specs ≡ where_key nat_cmp (λ key. not (conn == key)) self.old.specs }
         ensures queues { self.new.queues ≡ where_key nat_cmp (λ key. not (conn == key)) self.old.queues }
+        ensures txns { self.new.txns ≡ where_key nat_cmp (λ key. not (conn == key)) self.old.txns }
         ensures table { IsTable self.new.specs }
         ensures sound { IsSound self.old → IsSound self.new }
     {
@@ -153,12 +156,10 @@ impl Peers {
         ensures ok { OnOk result (HasRoom conn bytes self.new.queues) }
         ensures specs { self.new.specs ≡ self.old.specs }
         ensures bytes { unsent_of self.new.queues ≡ unsent_of self.old.queues }
+        ensures txns { self.new.txns ≡ self.old.txns }
         ensures sound { IsSound self.old → IsSound self.new }
     {
-        let Some(queue) = self.rows.get_mut(conn) else {
-            return Ok(());
-        };
-        queue.reserve(bytes)
+        self.rows.reserve_bytes(conn, bytes)
     }
 
     /// Appends a whole message to what is unsent to a connection, for which there is memory. O(its length).
@@ -169,22 +170,20 @@ impl Peers {
         ensures bytes { (bytes : List ℕ) → find nat_cmp conn (unsent_of self.old.queues) ≡ Some bytes
             → unsent_of self.new.queues ≡ put nat_cmp conn (bytes ++ message.now) (unsent_of self.old.queues) }
         ensures absent { find nat_cmp conn self.old.queues ≡ None → self.new ≡ self.old }
+        ensures txns { self.new.txns ≡ self.old.txns }
     {
-        let Some(queue) = self.rows.get_mut(conn) else {
-            return;
-        };
-        queue.push(message)
+        self.rows.push(conn, message)
     }
 
     /// Moves the first unsent bytes of a connection into `into`, and says how many; none where it is not there. O(bytes
     /// moved).
     pub fn pull(&mut self, conn: u32, into: &mut [u8]) -> Option<usize>
         ensures specs { self.new.specs ≡ self.old.specs }
+        ensures txns { self.new.txns ≡ self.old.txns }
         ensures sound { IsSound self.old → IsSound self.new }
         ensures pulled { PulledFrom self.old.queues conn into.old self.new.queues into.new result }
     {
-        let queue = self.rows.get_mut(conn)?;
-        Some(queue.pull(into))
+        self.rows.pull(conn, into)
     }
 }
 

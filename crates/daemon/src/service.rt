@@ -9,9 +9,9 @@ ghost use Rattle.machine_model.specs.Connections.{ring_of};
 ghost use Rattle.machine_model.specs.Machine.{Machine, new_machine};
 ghost use Rattle.conn_table.specs.Tables.{IsTable, is_taken, is_socket, count_sockets};
 ghost use Rattle.daemon.specs.Keeps.{StandsFor};
-ghost use Rattle.daemon.specs.Peers.{IsInBounds, IsSound, IsSoundTable, unsent_of};
-ghost use Rattle.daemon.specs.Acts.{kept_of};
-ghost use Rattle.daemon.specs.Submits.{Submits, Pulled, Adds, Drops};
+ghost use Rattle.daemon.specs.Peers.{IsInBounds, IsSoundTable, unsent_of};
+ghost use Rattle.daemon.specs.Acts.{IsWhole, kept_by};
+ghost use Rattle.daemon.specs.Submits.{StepsIfDone, Submits, Pulled, Adds, Drops};
 
 use crate::act::answer;
 use crate::answer::{Door, Pull, Submit};
@@ -42,17 +42,13 @@ pub struct Daemon {
 
 impl Model for Daemon {
     ghost use Rattle.daemon.specs.Keeps.{Kept};
-    ghost use Rattle.daemon.specs.Peers.{IsSound, unsent_of};
+    ghost use Rattle.daemon.specs.Acts.{IsWhole, kept_by};
 
     ghost Value = { Kept };
 
-    ghost view = { λ daemon. record {
-      tree = daemon.tree.nodes;
-      specs = daemon.peers.specs;
-      unsent = unsent_of daemon.peers.queues;
-    } };
+    ghost view = { λ daemon. kept_by daemon.tree daemon.peers };
 
-    ghost invariant = { λ daemon. IsSound daemon.peers };
+    ghost invariant = { λ daemon. IsWhole daemon.tree daemon.peers };
 }
 
 impl Daemon {
@@ -89,10 +85,13 @@ impl Daemon {
     /// Takes one whole request of a connection: a header and its payload. Refused, nothing has changed. Every other
     /// connection keeps what is unsent to it.
     ///
-    /// O(log connections + length of the message), and what the request costs: a tree command what `tree_ops` says,
-    /// INTRODUCE and RELEASE a move of the connections of higher ids.
+    /// O(log connections + length of the message), and what the request costs: a tree command what `tree_ops` says, and a
+    /// change of the tree a search in each open transaction for each changed path, and where it keeps the node that stood
+    /// there, a copy of that; START O(log open transactions); INTRODUCE and RELEASE a move of the connections of higher ids.
     pub fn submit(&mut self, conn: u32, message: &[u8]) -> Result<Submit, NoMemory>
         requires { 16 ≤ length message.now }
+        // What is kept after it is a function of what was kept: one step of the store that is kept.
+        ensures step { IfOk result (StepsIfDone self.old conn message.now self.new) }
         ensures ok { IfOk result (Submits self.old conn message.now self.new) }
         ensures err { OnErr result (self.new ≡ self.old) }
     {
@@ -173,12 +172,13 @@ fn submit_to(
     message: &[u8],
 ) -> Result<Submit, NoMemory>
     requires message { 16 ≤ length message.now }
-    requires sound { IsSound peers.old }
+    requires whole { IsWhole tree.old peers.old }
     requires there { find nat_cmp asker.conn peers.old.specs ≡ Some asker.spec }
     requires few { (bytes : List ℕ) → find nat_cmp asker.conn (unsent_of peers.old.queues) ≡ Some bytes → length bytes < HELD_LIMIT }
-    ensures ok { IfOk result (Submits (kept_of tree.old.nodes peers.old) asker.conn message.now (kept_of tree.new.nodes peers.new)) }
-    ensures sound { IsSound peers.new }
-    ensures err { OnErr result (kept_of tree.new.nodes peers.new ≡ kept_of tree.old.nodes peers.old) }
+    ensures step { IfOk result (StepsIfDone (kept_by tree.old peers.old) asker.conn message.now (kept_by tree.new peers.new)) }
+    ensures ok { IfOk result (Submits (kept_by tree.old peers.old) asker.conn message.now (kept_by tree.new peers.new)) }
+    ensures whole { IsWhole tree.new peers.new }
+    ensures err { OnErr result (kept_by tree.new peers.new ≡ kept_by tree.old peers.old) }
 {
     peers.reserve(asker.conn, MESSAGE_MAX)?;
     let head = head_of(message);

@@ -1,14 +1,26 @@
 //! Connections' ways through the daemon, by hand.
 
-ghost use Rattle.std.specs.Prelude.{◌≡◌, None};
+ghost use Rattle.std.specs.Prelude.{◌≡◌, ◌≤◌, None, length};
 
 use crate::{AddErr, ConnSpec, Daemon, Door, Pull, Submit};
 use std::test::Fail;
+use xs_base::NoMemory;
 
 /// A READ of the path `/a`, which is absent.
 const READ: [u8; 19] = [
     2, 0, 0, 0, 1, 0, 0, 0, 0, 0, 0, 0, 3, 0, 0, 0, b'/', b'a', 0,
 ];
+
+/// TRANSACTION_START.
+const START: [u8; 17] = [6, 0, 0, 0, 1, 0, 0, 0, 0, 0, 0, 0, 1, 0, 0, 0, 0];
+
+/// A WRITE of `x` to the path `/a` in transaction 1.
+const WRITE_INSIDE: [u8; 20] = [
+    11, 0, 0, 0, 1, 0, 0, 0, 1, 0, 0, 0, 4, 0, 0, 0, b'/', b'a', 0, b'x',
+];
+
+/// TRANSACTION_END of transaction 1, with a commit.
+const END: [u8; 18] = [7, 0, 0, 0, 1, 0, 0, 0, 1, 0, 0, 0, 2, 0, 0, 0, b'T', 0];
 
 /// INTRODUCE of domain 5, with the event channel 3.
 const INTRODUCE: [u8; 22] = [
@@ -29,6 +41,13 @@ fn ring(domid: u16) -> ConnSpec
     }
 }
 
+/// What comes of a message. A test looks at its answer alone, and proves sooner without the clauses behind it.
+fn submit(daemon: &mut Daemon, conn: u32, message: &[u8]) -> Result<Submit, NoMemory>
+    requires { 16 ≤ length message.now }
+{
+    daemon.submit(conn, message)
+}
+
 #[test]
 fn answers_and_drops_a_connection(rt: HostRuntime) -> Result<(), Fail> {
     let mut daemon = Daemon::new(rt.alloc())?;
@@ -36,8 +55,8 @@ fn answers_and_drops_a_connection(rt: HostRuntime) -> Result<(), Fail> {
     assert_eq!(rt; daemon.conn_of(0), Some(1));
     assert_eq!(rt; daemon.conn_of(1), None);
     assert_eq!(rt; daemon.pull(1, &mut into), Pull::Nothing);
-    assert_eq!(rt; daemon.submit(1, &READ)?, Submit::Done(Door::Same));
-    assert_eq!(rt; daemon.submit(2, &READ)?, Submit::Gone);
+    assert_eq!(rt; submit(&mut daemon, 1, &READ)?, Submit::Done(Door::Same));
+    assert_eq!(rt; submit(&mut daemon, 2, &READ)?, Submit::Gone);
     assert_eq!(rt; daemon.unsent(1), Some(23));
     assert_eq!(rt; daemon.pull(1, &mut into), Pull::Got(20));
     assert_eq!(rt; daemon.pull(1, &mut into), Pull::Got(3));
@@ -53,17 +72,23 @@ fn makes_and_removes_a_ring(rt: HostRuntime) -> Result<(), Fail> {
     let mut daemon = Daemon::new(rt.alloc())?;
     let mut into = [0; 23];
     assert_eq!(rt;
-        daemon.submit(1, &INTRODUCE)?,
+        submit(&mut daemon, 1, &INTRODUCE)?,
         Submit::Done(Door::Opened(5))
     );
     assert_eq!(rt; daemon.conn_of(5), Some(2));
-    assert_eq!(rt; daemon.submit(1, &INTRODUCE)?, Submit::Done(Door::Same));
+    assert_eq!(rt;
+        submit(&mut daemon, 1, &INTRODUCE)?,
+        Submit::Done(Door::Same)
+    );
     assert_eq!(rt; daemon.conns().len(), 2);
-    assert_eq!(rt; daemon.submit(2, &RELEASE)?, Submit::Done(Door::Same));
+    assert_eq!(rt; submit(&mut daemon, 2, &RELEASE)?, Submit::Done(Door::Same));
     assert_eq!(rt; daemon.pull(2, &mut into), Pull::Got(23));
     assert_eq!(rt; &into[16..], b"EACCES\0".as_slice());
-    assert_eq!(rt; daemon.submit(2, &READ)?, Submit::Done(Door::Same));
-    assert_eq!(rt; daemon.submit(1, &RELEASE)?, Submit::Done(Door::Closed(5)));
+    assert_eq!(rt; submit(&mut daemon, 2, &READ)?, Submit::Done(Door::Same));
+    assert_eq!(rt;
+        submit(&mut daemon, 1, &RELEASE)?,
+        Submit::Done(Door::Closed(5))
+    );
     assert_eq!(rt; (daemon.conn_of(5), daemon.unsent(2)), (None, None));
     assert_eq!(rt; daemon.unsent(1), Some(57));
     Ok(())
@@ -77,5 +102,21 @@ fn adds_an_id_and_a_domain_once(rt: HostRuntime) -> Result<(), Fail> {
     assert_eq!(rt; daemon.add_conn(2, ring(7)), Err(AddErr::Taken));
     assert_eq!(rt; daemon.unsent(4), Some(0));
     assert_eq!(rt; (daemon.conn_of(7), daemon.conn_of(8)), (Some(4), None));
+    Ok(())
+}
+
+#[test]
+fn commits_a_transaction(rt: HostRuntime) -> Result<(), Fail> {
+    let mut daemon = Daemon::new(rt.alloc())?;
+    let done = Submit::Done(Door::Same);
+    assert_eq!(rt; submit(&mut daemon, 1, &START)?, done);
+    assert_eq!(rt; submit(&mut daemon, 1, &WRITE_INSIDE)?, done);
+    // Outside of it `/a` is absent still: an ERROR with a name of 7 bytes.
+    assert_eq!(rt; submit(&mut daemon, 1, &READ)?, done);
+    assert_eq!(rt; daemon.unsent(1), Some(60));
+    assert_eq!(rt; submit(&mut daemon, 1, &END)?, done);
+    // Then it is there, with a value of one byte.
+    assert_eq!(rt; submit(&mut daemon, 1, &READ)?, done);
+    assert_eq!(rt; daemon.unsent(1), Some(96));
     Ok(())
 }

@@ -11,7 +11,7 @@ use Rattle.machine_model.specs.declared.ConnSpec.TheVariants.{Ring}
 use Rattle.xs_model.specs.declared.message.Header.{Header}
 use Rattle.xs_model.specs.declared.message.WireErr.{WireErr}
 use Rattle.xs_model.specs.declared.message.WireErr.TheVariants.{Eacces, Eexist, Enoent, Enospc, Ebusy, Eagain, E2big}
-use Rattle.xs_model.specs.declared.message.kind.TheConstants.{DIRECTORY, READ, GET_PERMS, INTRODUCE, RELEASE, GET_DOMAIN_PATH, WRITE, MKDIR, RM, ERROR, SET_PERMS, IS_DOMAIN_INTRODUCED, SET_TARGET}
+use Rattle.xs_model.specs.declared.message.kind.TheConstants.{ERROR}
 use Rattle.xs_model.specs.Paths.{Path, text, home}
 use Rattle.xs_model.specs.Perms.{Caller}
 use Rattle.xs_model.specs.Trees.{Tree, new_tree}
@@ -271,13 +271,3 @@ step_with served m (Lost c) = (without_conn c m, [])
 -- the store of the whole profile
 abbrev pub step : Machine → Item → Step
 step = step_with all_types
-
--- The message types that this version serves; each change that builds a type makes the list longer
-abbrev pub built_types : List ℕ
-built_types =
-    DIRECTORY ∷ READ ∷ GET_PERMS ∷ INTRODUCE ∷ RELEASE ∷ GET_DOMAIN_PATH ∷ WRITE ∷ MKDIR ∷ RM ∷ SET_PERMS
-    ∷ IS_DOMAIN_INTRODUCED ∷ SET_TARGET ∷ []
-
--- the store with these types
-abbrev pub built_step : Machine → Item → Step
-built_step = step_with built_types

@@ -5,22 +5,22 @@ use Rattle.std.specs.FinMap.{find, put}
 use Rattle.std.proofs.lemmas.Cmp.{nat_cmp_total}
 use Rattle.xs_model.proofs.Maps.{sorted_put}
 use Rattle.machine_model.specs.declared.ConnSpec.TheVariants.{Ring}
-use Rattle.machine_model.specs.Connections.{Connections, fresh, ring_of, least_free}
+use Rattle.machine_model.specs.Connections.{fresh, ring_of, least_free}
 use Rattle.machine_model.specs.Machine.{with_conn}
 use Rattle.conn_table.specs.Tables.{ring_id}
 use Rattle.world_model.specs.Worlds.{World, fresh_guest, empty_channel, with_start, domain_added}
 use Rattle.world_laws.proofs.EntryLemmas.{value_of}
 use Rattle.daemon.specs.Submits.{Adds}
-use Rattle.daemon.proofs.KeepsLemmas.{put_map, conns_ring}
-use Rattle.daemon.proofs.FreshLemmas.{fresh_free}
+use Rattle.daemon.proofs.KeepsLemmas.{put_map}
 use Rattle.world_core.specs.Stands.{Kept, StandsFor, AddsDomain}
 use Rattle.world_core.specs.Seats.{IsSeated}
+use Rattle.world_core.proofs.SpecLemmas.{ring_as, free_as}
 use Rattle.world_core.proofs.RingLemmas.{rings_more}
 use Rattle.world_core.proofs.StandLemmas.{inbox, unsent, guest_changed, in_order, rings_differ}
 
 module _ (old new : Kept) (d start : ℕ) where
   ring_is : (w : World) → StandsFor old w → (o : Option ℕ) → ring_id d old.daemon.specs ≡ o → ring_of d w.machine.conns ≡ o
-  ring_is w stands o is = ap (ring_of d) stands.store.conns ∙ conns_ring d old.daemon.specs ∙ is
+  ring_is w stands o is = ring_as old.daemon w.machine stands.store d ∙ is
 
   -- that was connected
   pub adds_page : is_some (ring_id d old.daemon.specs) ≡ true → new.daemon ≡ old.daemon → new.inboxes ≡ old.inboxes → new.guests ≡ put nat_cmp d (fresh_guest start) old.guests → new.rings ≡ old.rings → AddsDomain old d start new
@@ -39,7 +39,7 @@ module _ (old new : Kept) (d start : ℕ) where
         let ring = ring_is w stands None none in
         let store = stands.store in
         let id : c ≡ least_free w.machine.conns =
-        least ∙ sym (fresh_free old.daemon.specs) ∙ sym (ap (λ (conns : Connections). least_free conns) store.conns) in
+        least ∙ sym (free_as old.daemon w.machine store) in
         let world = λ (k : ℕ). with_start d start (record { machine = with_conn k (fresh (Ring d None 0)) w.machine; globals = w.globals; guests = w.guests; channels = put nat_cmp k empty_channel w.channels }) in
         let there : StandsFor new (world c) = record {
           store = adds.stands w.machine store;

@@ -4,21 +4,19 @@ use Rattle.std.specs.Ordering.{nat_cmp, is_eq}
 use Rattle.std.specs.Cmp.{tied_itself}
 use Rattle.std.specs.FinMap.{find, put, nat_cmp-IsAntisymmetric}
 use Rattle.std.specs.FinMap.Entries.{find-where_key}
-use Rattle.std.specs.List.{AllByRecursion, filter_map, cons_option}
+use Rattle.std.specs.List.{AllByRecursion, cons_option}
 use Rattle.std.proofs.lemmas.Bool.{cases_Bool, and_parts}
 use Rattle.std.proofs.lemmas.Bool.Decides.{nat_tests}
 use Rattle.std.proofs.lemmas.Cmp.{nat_cmp_total}
 use Rattle.xs_model.proofs.Maps.{from_Some, not_Some}
 use Rattle.machine_model.specs.declared.ConnSpec.{ConnSpec}
 use Rattle.machine_model.specs.declared.ConnSpec.TheVariants.{Ring, Socket}
-use Rattle.machine_model.specs.Connections.{Connection, ring_of}
 use Rattle.id_map.specs.Ids.{above, first_id}
 use Rattle.conn_table.specs.Tables.{Specs, ring_id, has_distinct_rings}
 use Rattle.world_model.specs.Worlds.{Guest, ring_domid, with_fresh_guests}
 use Rattle.world_laws.proofs.EntryLemmas.{not_none, none_of, found_same, found_other}
 use Rattle.daemon.specs.Keeps as daemon
-use Rattle.daemon.specs.Keeps.{conns_of}
-use Rattle.daemon.proofs.KeepsLemmas.{conns_ring}
+use Rattle.world_core.proofs.SpecLemmas.{ring_as, domids_as}
 use Rattle.world_core.specs.Guests.{ring_domids, with_fresh_page, with_ring, with_rings}
 use Rattle.world_core.specs.Stands.{Kept, Begins}
 use Rattle.world_core.proofs.RingLemmas.{is_not}
@@ -112,19 +110,15 @@ rings_found d c ((id, Ring domid target evtchn) ∷ es) rings distinct h =
       | inr f ↦ rings_found d c es (put nat_cmp domid id rings) parts.1 (sym (ap (λ b. cond b (Some id) (ring_id d es)) f) ∙ h)
     ]
 
-domids_of : (specs : Specs) → filter_map (λ (e : ℕ × Connection). ring_domid e.1.spec) (conns_of specs) ≡ ring_domids specs
-domids_of [] = refl
-domids_of (e ∷ es) = ap (cons_option (ring_domid e.1)) (domids_of es)
-
 -- A START
 pub begins : (store : daemon.Kept) (inboxes : List (ℕ × List ℕ)) (new : Kept) → new.daemon ≡ store → new.inboxes ≡ inboxes → new.guests ≡ with_fresh_guests (ring_domids store.specs) [] → new.rings ≡ with_rings store.specs [] → Begins store inboxes new
 begins store inboxes new same_daemon same_inboxes guests rings = record {
   stands = λ m globals channels stands of_inboxes of_unsent order. record {
     store = subst (λ kept. daemon.StandsFor kept m) (sym same_daemon) stands;
-    guests = ap (λ ds. with_fresh_guests ds []) (ap (filter_map (λ (e : ℕ × Connection). ring_domid e.1.spec)) stands.conns ∙ domids_of store.specs) ∙ sym guests;
+    guests = ap (λ ds. with_fresh_guests ds []) (domids_as store m stands) ∙ sym guests;
     inboxes = of_inboxes ∙ sym same_inboxes;
     unsent = of_unsent ∙ ap (λ (kept : daemon.Kept). kept.unsent) (sym same_daemon);
     order = order;
-    rings = λ d c h. ap (find nat_cmp d) rings ∙ rings_found d c store.specs [] stands.table.rings (sym (conns_ring d store.specs) ∙ ap (ring_of d) (sym stands.conns) ∙ h);
+    rings = λ d c h. ap (find nat_cmp d) rings ∙ rings_found d c store.specs [] stands.table.rings (sym (ring_as store m stands d) ∙ h);
   };
 }

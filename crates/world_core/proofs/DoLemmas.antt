@@ -5,7 +5,8 @@ use Rattle.std.proofs.lemmas.Bool.Decides.{nat_tests}
 use Rattle.std.specs.Ordering.{nat_cmp}
 use Rattle.std.specs.FinMap.{find, put}
 use Rattle.xs_model.proofs.Maps.{from_Some, not_Some}
-use Rattle.machine_model.specs.Machine.{Machine, Item, Asked, built_types, built_step}
+use Rattle.machine_model.specs.Machine.{Machine, Item, Asked}
+use Rattle.daemon.specs.Built.{built_types, built_step}
 use Rattle.machine_model.specs.History.{unsent_after, crowded}
 use Rattle.world_model.specs.declared.Said.{Said}
 use Rattle.world_model.specs.declared.Said.TheVariants as said

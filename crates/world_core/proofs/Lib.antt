@@ -1,4 +1,5 @@
 pub mod ChannelLemmas
+pub mod SpecLemmas
 pub mod RingLemmas
 pub mod StandLemmas
 pub mod ServedLemmas

@@ -6,21 +6,23 @@ use Rattle.std.specs.FinMap.{find, put, is_sorted, nat_cmp-IsAntisymmetric}
 use Rattle.std.specs.FinMap.Entries.{where_key}
 use Rattle.std.proofs.lemmas.Bool.{cases_Bool, and_parts}
 use Rattle.std.proofs.lemmas.Cmp.{nat_cmp_total}
-use Rattle.xs_model.proofs.Maps.{from_Some, not_both, sorted_put, sorted_where, tied}
-use Rattle.machine_model.specs.Machine.{built_types}
+use Rattle.xs_model.proofs.Maps.{from_Some, not_both, found_map, sorted_put, sorted_where, tied}
+use Rattle.daemon.specs.Built.{built_types}
 use Rattle.machine_model.specs.declared.ConnSpec.{ConnSpec}
 use Rattle.machine_model.specs.declared.ConnSpec.TheVariants.{Ring, Socket}
 use Rattle.machine_model.specs.Connections.{Connection, Connections, fresh, is_ring_of, ring_of}
 use Rattle.machine_model.specs.Limits.{HasIds}
-use Rattle.machine_model.specs.Machine.{Machine, Item, built_step}
-use Rattle.conn_table.specs.Tables.{Specs, ring_id, has_its_ring, has_distinct_rings}
+use Rattle.machine_model.specs.Machine.{Machine, Item}
+use Rattle.daemon.specs.Built.{built_step}
+use Rattle.conn_table.specs.Tables.{Specs, specs_of, ring_id, has_its_ring, has_distinct_rings}
 use Rattle.world_model.specs.Worlds.{ring_domid}
 use Rattle.world_laws.specs.Laws.{HasOneRingEach}
 use Rattle.world_laws.proofs.ConnLemmas.{ends, OneRingEach, one_ring_each, no_ring, ring_ends, ring_is}
 use Rattle.world_laws.proofs.EntryLemmas.{value_of, mapped_some, not_none, found_same, found_other, lost_same, lost_other}
 use Rattle.world_laws.proofs.StepLemmas.{step_moves}
 use Rattle.daemon.specs.Keeps.{conns_of}
-use Rattle.daemon.proofs.KeepsLemmas.{conns_ring, same_there}
+use Rattle.daemon.proofs.KeepsLemmas.{conns_found, conns_ring, same_there}
+use Rattle.world_core.proofs.SpecLemmas.{ring_by_spec}
 use Rattle.world_core.proofs.ChannelLemmas.{ids}
 
 -- THE TABLE of a store's connections has each ring once
@@ -51,8 +53,20 @@ has_one_ring_each (e ∷ es) distinct c d conn =
           ap (λ b. cond b (Some e.0) (ring_of d (conns_of es))) (not_twice d c e.1 es (is_not (has_its_ring e.1 es) parts.0) later) ∙ later
     ] refl
 
-pub one_ring : (specs : Specs) → has_distinct_rings specs ≡ true → OneRingEach (conns_of specs)
-one_ring specs distinct = one_ring_each (conns_of specs) (has_one_ring_each specs distinct)
+-- so has each store with these other ends
+module _ (specs : Specs) (distinct : has_distinct_rings specs ≡ true) (conns : Connections) (same : specs_of conns ≡ specs) where
+  found_fresh : (c : ℕ) (conn : Connection) → find nat_cmp c conns ≡ Some conn → find nat_cmp c (conns_of specs) ≡ Some (fresh conn.spec)
+  found_fresh c conn there =
+      conns_found c specs ∙ ap (λ (es : Specs). option_map fresh (find nat_cmp c es)) (sym same)
+      ∙ ap (option_map fresh) (found_map nat_cmp (λ (x : Connection). x.spec) c conns ∙ ap (option_map (λ (x : Connection). x.spec)) there)
+
+  has_one : HasOneRingEach conns
+  has_one c d conn there ring =
+      ring_by_spec d conns ∙ ap (ring_id d) same ∙ sym (conns_ring d specs)
+      ∙ has_one_ring_each specs distinct c d (fresh conn.spec) (found_fresh c conn there) ring
+
+  pub one_ring : OneRingEach conns
+  one_ring = one_ring_each conns has_one
 
 -- the ring connections of a store are kept beside it
 abbrev pub HasRings : List (ℕ × ℕ) → Connections → Type 0

@@ -9,10 +9,11 @@ use Rattle.std.specs.Option.{option_map}
 use Rattle.std.proofs.lemmas.Cmp.{nat_cmp_total}
 use Rattle.xs_model.proofs.Maps.{found_map, sorted_map, sorted_put, sorted_where, not_both}
 use Rattle.machine_model.specs.declared.ConnSpec.TheVariants.{Ring}
-use Rattle.machine_model.specs.Connections.{Connection, Connections, fresh, ring_of}
+use Rattle.machine_model.specs.Connections.{Connection, Connections, fresh}
 use Rattle.machine_model.specs.History.{unsent_after}
 use Rattle.machine_model.specs.Limits.{HasIds}
-use Rattle.machine_model.specs.Machine.{Machine, Asked, Lost, Step, Send, built_step, step_with}
+use Rattle.machine_model.specs.Machine.{Machine, Asked, Lost, Step, Send, step_with}
+use Rattle.daemon.specs.Built.{built_step}
 use Rattle.machine_model.proofs.Lists.{all_weaker}
 use Rattle.conn_table.specs.Tables.{ring_id}
 use Rattle.world_model.specs.Worlds.{World, Guest, Channel, Served, fresh_guest, ring_domid, with_guest, with_channel, without_channel, channel_or_empty, channel_after, channels_after, domid_if_new, with_fresh_guests, without_front, world_after, unsent_of}
@@ -23,10 +24,11 @@ use Rattle.daemon.specs.declared.answer.Door.TheVariants.{Same, Opened, Closed}
 use Rattle.daemon.specs.Keeps as daemon
 use Rattle.daemon.specs.Peers.{IsSoundTable}
 use Rattle.daemon.specs.Submits.{Takes, Drops}
-use Rattle.daemon.proofs.KeepsLemmas.{put_map, where_map, put_again, keys_map, same_there, same_rising, conns_ring}
+use Rattle.daemon.proofs.KeepsLemmas.{put_map, where_map, put_again, keys_map, same_there, same_rising}
 use Rattle.world_core.specs.Stands.{Kept, StandsFor, inboxes_of}
 use Rattle.world_core.specs.Seats.{Follows}
 use Rattle.world_core.proofs.ChannelLemmas.{ids, unsent_stepped, inboxes_stepped, inboxes_made, inboxes_lost}
+use Rattle.world_core.proofs.SpecLemmas.{specs_are, ring_as, ids_as, rising_as}
 use Rattle.world_core.proofs.RingLemmas.{HasRings, one_ring, rings_left, new_ends, rings_more, ring_stays}
 
 abbrev pub inbox : Channel → List ℕ
@@ -84,16 +86,16 @@ unsent_changed old new w c channel u rest stands there store bytes same_inboxes 
 -- THE CONNECTIONS of a store have the ids of the table, and of what is unsent
 module _ (kept : daemon.Kept) (m : Machine) (store : daemon.StandsFor kept m) where
   pub ids_of_table : ids m.conns ≡ ids kept.specs
-  ids_of_table = ap (λ (conns : Connections). ids conns) store.conns ∙ keys_map fresh kept.specs
+  ids_of_table = ids_as kept m store
 
   pub ids_of_unsent : ids m.conns ≡ ids kept.unsent
   ids_of_unsent = ids_of_table ∙ sym store.ids
 
   pub in_order : is_sorted nat_cmp m.conns ≡ true
-  in_order = ap (is_sorted nat_cmp) store.conns ∙ sorted_map nat_cmp fresh kept.specs ∙ store.table.rising
+  in_order = rising_as kept m store ∙ store.table.rising
 
   pub rings_differ : OneRingEach m.conns
-  rings_differ = subst OneRingEach (sym store.conns) (one_ring kept.specs store.table.rings)
+  rings_differ = one_ring kept.specs store.table.rings m.conns (specs_are kept m store)
 
   -- without one of them
   pub rings_but_one : (c : ℕ) (rings : List (ℕ × ℕ)) → HasRings rings m.conns → HasRings rings (where_key nat_cmp (λ k. not (c == k)) m.conns)
@@ -238,7 +240,7 @@ module _ (old new : Kept) (w : World) (at : Served) (n : ℕ) (message : List �
       let conn = fresh (Ring d None opens.evtchn) in
       let there : ends after c ≡ Some (Some d) = subst (λ conns. ends conns c ≡ Some (Some d)) (sym opens.made) (new_ends before (in_order old.daemon w.machine stands.store) (rings_differ old.daemon w.machine stands.store) c d opens.evtchn opens.none) in
       let ring : ring_id d new.daemon.specs ≡ Some c =
-      sym (conns_ring d new.daemon.specs) ∙ ap (ring_of d) (sym takes.stands.conns)
+      sym (ring_as new.daemon stepped.0 takes.stands d)
       ∙ ring_is after (in_order new.daemon stepped.0 takes.stands) (rings_differ new.daemon stepped.0 takes.stands) c d there in
       let seated = follow c ring in
       record {

@@ -2,7 +2,7 @@
 use Rattle.std.specs.Prelude.{◌≡◌, ◌⊎◌, ℕ, ◌≤◌, true, List, [], map, filter_map, Some, ⊤}
 use Rattle.std.specs.Ordering.{nat_cmp}
 use Rattle.std.specs.FinMap.{find, is_sorted}
-use Rattle.machine_model.specs.Machine.{built_types}
+use Rattle.daemon.specs.Built.{built_types}
 use Rattle.machine_model.specs.Connections.{ring_of}
 use Rattle.machine_model.specs.declared.Globals.{Globals}
 use Rattle.machine_model.specs.Machine.{Machine}

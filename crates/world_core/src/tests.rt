@@ -1,17 +1,19 @@
 //! Worked runs of the world, by hand.
 
-ghost use Rattle.std.specs.Prelude.{◌<◌, length};
+ghost use Rattle.guest_script.specs.Views.{event_view};
+ghost use Rattle.world_core.specs.Stands.{IsBuilt};
 
 use crate::World;
 use daemon::Daemon;
 use guest_script::Event;
 use msg_reassembly::{Inbox, Ins};
 use std::alloc::Global;
+use std::process::Abort;
 use std::test::Fail;
 use world_model::{Said, Which};
 use xs_base::{Bytes, NoMemory, SureVault};
 
-/// A READ of the path `/a`, which is absent, in hexadecimal digits of its bytes.
+/// A READ of the path `/a`, which is absent.
 const READ: [u8; 19] = [
     2, 0, 0, 0, 1, 0, 0, 0, 0, 0, 0, 0, 3, 0, 0, 0, b'/', b'a', 0,
 ];
@@ -23,13 +25,57 @@ fn new_world(alloc: Global) -> Result<World, NoMemory> {
     World::start(alloc, Daemon::new(alloc)?, ins)
 }
 
+/// What the world says to an event. A test looks at that alone, and proves sooner without the clauses behind it.
+fn say(world: &mut World, vault: &mut SureVault, event: Event) -> Said
+    requires { IsBuilt (event_view event) }
+{
+    world.step(&event, vault)
+}
+
+/// Domain 0 queues a READ, which leaves for the store in two pieces.
+fn ask_in_pieces(
+    rt: &impl Abort,
+    world: &mut World,
+    vault: &mut SureVault,
+    bytes: Bytes,
+) -> Result<(), Fail> {
+    let domid = 0;
+    assert_eq!(rt;
+        say(world, vault, Event::Send { domid, bytes }),
+        Said::Queued(19)
+    );
+    assert_eq!(rt;
+        say(world, vault, Event::Put { domid, max: 17 }),
+        Said::Put(17)
+    );
+    assert_eq!(rt;
+        say(world, vault, Event::Intake { domid, max: 4112 }),
+        Said::Took(17)
+    );
+    assert_eq!(rt; say(world, vault, Event::Do { domid }), Said::Part);
+    assert_eq!(rt;
+        say(world, vault, Event::Put { domid, max: 17 }),
+        Said::Put(2)
+    );
+    assert_eq!(rt;
+        say(world, vault, Event::Intake { domid, max: 4112 }),
+        Said::Took(2)
+    );
+    assert_eq!(rt;
+        say(world, vault, Event::Intake { domid, max: 4112 }),
+        Said::InFull
+    );
+    assert_eq!(rt; say(world, vault, Event::Do { domid }), Said::Done);
+    Ok(())
+}
+
 #[test]
 fn plays_each_event(rt: HostRuntime) -> Result<(), Fail> {
-    let alloc = rt.alloc();
-    let mut world = new_world(alloc)?;
-    let mut vault = SureVault::new(alloc);
+    let mut world = new_world(rt.alloc())?;
+    let mut vault = SureVault::new(rt.alloc());
+    let bytes = Bytes::copy(rt.alloc(), &READ)?;
+    ask_in_pieces(&rt, &mut world, &mut vault, bytes)?;
     let domid = 0;
-    let bytes = Bytes::copy(alloc, &READ)?;
     let words = Said::Page {
         req_cons: 19,
         req_prod: 19,
@@ -37,174 +83,77 @@ fn plays_each_event(rt: HostRuntime) -> Result<(), Fail> {
         rsp_prod: 20,
         error: 0,
     };
-    let rows = [
-        (
-            Event::Send {
-                domid: 1,
-                bytes: Bytes::new(alloc),
-            },
-            Said::Gone,
-        ),
-        (Event::Send { domid, bytes }, Said::Queued(19)),
-        (Event::Put { domid, max: 17 }, Said::Put(17)),
-        (Event::Intake { domid, max: 4112 }, Said::Took(17)),
-        (Event::Do { domid }, Said::Part),
-        (Event::Put { domid, max: 17 }, Said::Put(2)),
-        (Event::Intake { domid, max: 4112 }, Said::Took(2)),
-        (Event::Intake { domid, max: 4112 }, Said::InFull),
-        (Event::Do { domid }, Said::Done),
-        (Event::Out { domid, max: 20 }, Said::Sent(20)),
-        (Event::Page { domid }, words),
-        (Event::Take { domid, max: 4112 }, Said::Got(20)),
-        (Event::Out { domid, max: 20 }, Said::Sent(3)),
-        (Event::Out { domid, max: 20 }, Said::NoneQueued),
-        (Event::Take { domid, max: 2 }, Said::Got(2)),
-        (
-            Event::Poke {
-                domid,
-                which: Which::ReqProd,
-                value: 2000,
-            },
-            Said::Poked,
-        ),
-        (
-            Event::Intake { domid, max: 1 },
-            Said::DroppedIndex {
-                prod: 2000,
-                cons: 19,
-            },
-        ),
-        (Event::Do { domid }, Said::Gone),
-    ];
-    for (event, said) in &rows {
-        let got = world.step(event, &mut vault);
-        assert_eq!(rt; got, *said, "{event:?}");
-    }
+    assert_eq!(rt;
+        say(&mut world, &mut vault, Event::Out { domid, max: 20 }),
+        Said::Sent(20)
+    );
+    assert_eq!(rt; say(&mut world, &mut vault, Event::Page { domid }), words);
+    assert_eq!(rt;
+        say(&mut world, &mut vault, Event::Take { domid, max: 4112 }),
+        Said::Got(20)
+    );
+    assert_eq!(rt;
+        say(&mut world, &mut vault, Event::Out { domid, max: 20 }),
+        Said::Sent(3)
+    );
+    assert_eq!(rt;
+        say(&mut world, &mut vault, Event::Out { domid, max: 20 }),
+        Said::NoneQueued
+    );
+    assert_eq!(rt;
+        say(&mut world, &mut vault, Event::Take { domid, max: 2 }),
+        Said::Got(2)
+    );
     assert_eq!(rt; world.taken(), b"NT".as_slice());
     Ok(())
 }
 
-/// A WRITE to the path `/a` whose message has 4112 bytes, the most that one may have.
-fn large_write(alloc: Global) -> Result<Bytes, NoMemory> {
-    let mut bytes = Bytes::copy(alloc, &[11, 0, 0, 0, 1, 0, 0, 0, 0, 0, 0, 0, 0, 16, 0, 0])?;
-    bytes.push(b"/a\0")?;
-    for _byte in 0..4093 {
-        bytes.push(b"x")?;
-    }
-    Ok(bytes)
-}
-
-/// The guest puts, and the store takes in and answers the message in front.
-fn ask(world: &mut World, vault: &mut SureVault, domid: u16) -> Said {
-    let _put = world.step(&Event::Put { domid, max: 1024 }, vault);
-    let _took = world.step(&Event::Intake { domid, max: 4112 }, vault);
-    world.step(&Event::Do { domid }, vault)
-}
-
 #[test]
-fn holds_whoever_takes_no_replies(rt: HostRuntime) -> Result<(), Fail> {
-    let alloc = rt.alloc();
-    let mut world = new_world(alloc)?;
-    let mut vault = SureVault::new(alloc);
+fn drops_who_moves_an_index_too_far(rt: HostRuntime) -> Result<(), Fail> {
+    let mut world = new_world(rt.alloc())?;
+    let mut vault = SureVault::new(rt.alloc());
     let domid = 0;
-    let bytes = large_write(alloc)?;
-    let queued = world.step(&Event::Send { domid, bytes }, &mut vault);
-    assert_eq!(rt; queued, Said::Queued(4112));
-    for _piece in 0..4 {
-        assert_eq!(rt; ask(&mut world, &mut vault, domid), Said::Part);
-    }
-    assert_eq!(rt; ask(&mut world, &mut vault, domid), Said::Done);
-    let sent = world.step(&Event::Out { domid, max: 4112 }, &mut vault);
-    assert_eq!(rt; sent, Said::Sent(19));
-    for _reply in 0..9 {
-        let bytes = Bytes::copy(alloc, &READ)?;
-        let queued = world.step(&Event::Send { domid, bytes }, &mut vault);
-        assert_eq!(rt; queued, Said::Queued(19));
-    }
-    for _reply in 0..8 {
-        assert_eq!(rt; ask(&mut world, &mut vault, domid), Said::Done);
-    }
+    let (which, value) = (Which::ReqProd, 2000);
+    let poke = Event::Poke {
+        domid,
+        which,
+        value,
+    };
+    let dropped = Said::DroppedIndex {
+        prod: 2000,
+        cons: 0,
+    };
+    assert_eq!(rt; say(&mut world, &mut vault, poke), Said::Poked);
     assert_eq!(rt;
-        ask(&mut world, &mut vault, domid),
-        Said::Held { unsent: 32_872 }
+        say(&mut world, &mut vault, Event::Intake { domid, max: 1 }),
+        dropped
     );
-    let sent = world.step(&Event::Out { domid, max: 4112 }, &mut vault);
-    assert_eq!(rt; sent, Said::Sent(1005));
+    assert_eq!(rt;
+        say(&mut world, &mut vault, Event::Do { domid }),
+        Said::Gone
+    );
+    let (domid, bytes) = (1, Bytes::new(rt.alloc()));
+    assert_eq!(rt;
+        say(&mut world, &mut vault, Event::Send { domid, bytes }),
+        Said::Gone
+    );
     Ok(())
 }
 
-/// Domain 0 makes a request of this type.
-fn control(
-    alloc: Global,
-    world: &mut World,
-    vault: &mut SureVault,
-    kind: u8,
-    payload: &[u8],
-) -> Result<Said, NoMemory>
-    requires { length payload.now < 256 }
-{
-    let domid = 0;
-    let len = payload.len() as u8;
-    let head = [kind, 0, 0, 0, 1, 0, 0, 0, 0, 0, 0, 0, len, 0, 0, 0];
-    let mut bytes = Bytes::copy(alloc, &head)?;
-    bytes.push(payload)?;
-    let _queued = world.step(&Event::Send { domid, bytes }, vault);
-    Ok(ask(world, vault, domid))
-}
-
-/// The guest of a domain is in the middle of a message.
-fn send_half(
-    alloc: Global,
-    world: &mut World,
-    vault: &mut SureVault,
-    domid: u16,
-) -> Result<Said, NoMemory> {
-    let bytes = Bytes::copy(alloc, &READ[..10])?;
-    let _queued = world.step(&Event::Send { domid, bytes }, vault);
-    Ok(ask(world, vault, domid))
-}
-
-/// The words of a page at whose rings nothing was moved yet.
-fn fresh_page(start: u32) -> Said {
-    Said::Page {
-        req_cons: start,
-        req_prod: start,
-        rsp_cons: start,
-        rsp_prod: start,
-        error: 0,
-    }
-}
-
 #[test]
-fn gives_each_life_a_fresh_page(rt: HostRuntime) -> Result<(), Fail> {
+fn adds_a_domain_with_a_fresh_page(rt: HostRuntime) -> Result<(), Fail> {
     let alloc = rt.alloc();
     let mut world = new_world(alloc)?;
     let mut vault = SureVault::new(alloc);
     world.add_domain(5, 7)?;
-    let page = world.step(&Event::Page { domid: 5 }, &mut vault);
-    assert_eq!(rt; page, fresh_page(7));
-    let made = control(
-        alloc,
-        &mut world,
-        &mut vault,
-        8,
-        &[b'6', 0, b'1', 0, b'2', 0],
-    )?;
-    assert_eq!(rt; made, Said::Done);
-    assert_eq!(rt; send_half(alloc, &mut world, &mut vault, 6)?, Said::Part);
-    let released = control(alloc, &mut world, &mut vault, 9, &[b'6', 0])?;
-    assert_eq!(rt; released, Said::Done);
-    assert_eq!(rt; ask(&mut world, &mut vault, 6), Said::Gone);
-    let again = control(
-        alloc,
-        &mut world,
-        &mut vault,
-        8,
-        &[b'6', 0, b'1', 0, b'2', 0],
-    )?;
-    assert_eq!(rt; again, Said::Done);
-    let page = world.step(&Event::Page { domid: 6 }, &mut vault);
-    assert_eq!(rt; page, fresh_page(0));
-    assert_eq!(rt; ask(&mut world, &mut vault, 6), Said::Part);
+    let said = say(&mut world, &mut vault, Event::Page { domid: 5 });
+    let words = Said::Page {
+        req_cons: 7,
+        req_prod: 7,
+        rsp_cons: 7,
+        rsp_prod: 7,
+        error: 0,
+    };
+    assert_eq!(rt; said, words);
     Ok(())
 }

@@ -4,7 +4,7 @@ ghost use Rattle.std.specs.Prelude.{◌≡◌, ◌==◌, ◌≤◌, not, List, �
 ghost use Rattle.std.specs.Ordering.{nat_cmp};
 ghost use Rattle.std.specs.FinMap.{find, put};
 ghost use Rattle.std.specs.FinMap.Entries.{where_key};
-ghost use Rattle.machine_model.specs.Machine.{built_types};
+ghost use Rattle.daemon.specs.Built.{built_types};
 ghost use Rattle.world_model.specs.Rings.{put_all, with_reply, with_error};
 ghost use Rattle.world_model.specs.Fronts.{front};
 ghost use Rattle.world_model.specs.Worlds.{Guest as model_guest, Send as SendEvent, Put as PutEvent, Intake as IntakeEvent, Do as DoEvent, Out as OutEvent, Take as TakeEvent, Poke as PokeEvent, ShowPage, intake_ring, do_message, dropped};

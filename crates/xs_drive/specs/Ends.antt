@@ -3,7 +3,7 @@ use Rattle.std.specs.Prelude.{◌≡◌, ℕ, ◌≤◌, Bool, true, false, ◌|
 use Rattle.std.specs.List.{list_any}
 use Rattle.std.specs.Str.{bytes_eq}
 use Rattle.program_io.specs.Ends.{input_limit}
-use Rattle.machine_model.specs.Machine.{built_types}
+use Rattle.daemon.specs.Built.{built_types}
 use Rattle.world_model.specs.declared.LineKind.{LineKind}
 use Rattle.world_model.specs.Worlds.{Event, Send, Put, Intake, Do, Out, Take, Poke, ShowPage, Handover}
 use Rattle.world_model.specs.Scripts.{Script, script_of}

@@ -1,6 +1,6 @@
 -- What one event prints, for each world that the code's world stands for.
 use Rattle.std.specs.Prelude.{◌≡◌, ℕ, List, [], ◌++◌, take}
-use Rattle.machine_model.specs.Machine.{built_types}
+use Rattle.daemon.specs.Built.{built_types}
 use Rattle.world_model.specs.Worlds.{World, Event, event_with}
 use Rattle.world_model.specs.Transcripts.{event_line}
 use Rattle.world_core.specs.Stands.{Kept, StandsFor}

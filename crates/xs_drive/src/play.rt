@@ -4,7 +4,7 @@ ghost use Rattle.std.specs.Prelude.{◌≡◌, List, [], map, OnOk, OnErr, IfOk}
 ghost use Rattle.std.specs.Io.KnownBytes.{Appends};
 ghost use Rattle.std.specs.List.{AllByRecursion};
 ghost use Rattle.xs_base.specs.Faults.{NeverFalls, Rose};
-ghost use Rattle.machine_model.specs.Machine.{built_types};
+ghost use Rattle.daemon.specs.Built.{built_types};
 ghost use Rattle.world_model.specs.Worlds.{new_world};
 ghost use Rattle.world_model.specs.Transcripts.{script_lines, with_domains};
 ghost use Rattle.guest_script.specs.Views.{domain_view, event_view, script_view};

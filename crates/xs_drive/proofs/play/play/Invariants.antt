@@ -1,6 +1,6 @@
 use Rattle.std.proofs.Common.{◌≡◌, [], map, drop}
 use Rattle.xs_base.specs.Faults.{NeverFalls}
-use Rattle.machine_model.specs.Machine.{built_types}
+use Rattle.daemon.specs.Built.{built_types}
 use Rattle.world_model.specs.Transcripts.{script_lines}
 use Rattle.guest_script.specs.Views.{event_view, script_view}
 use Rattle.xs_drive.proofs.PlayLemmas.{Left}

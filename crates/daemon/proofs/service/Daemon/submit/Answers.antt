@@ -13,7 +13,7 @@ pub returns-in_default-clause-ok : goal.returns-in_default-clause-ok
 returns-in_default-clause-ok c =
     let peers = c.self.inside.peers in
     subst (λ (k : Kept). Submits k c.args.conn c.args.message.now k Gone) c.self.view_is
-    (absent_unsent peers c.self.invariant c.args.conn (c.in_default.ensures.found ∙ ap (find nat_cmp c.args.conn) c.conns.ensures), refl)
+    (absent_unsent peers c.self.invariant.sound c.args.conn (c.in_default.ensures.found ∙ ap (find nat_cmp c.args.conn) c.conns.ensures), refl)
 
 pub returns-in_default-unsent-clause-ok : goal.returns-in_default-unsent-clause-ok
 returns-in_default-unsent-clause-ok c =

@@ -1,5 +1,5 @@
 use Rattle.std.proofs.Common.{inr, refl}
-use Rattle.machine_model.specs.Machine.{built_types}
+use Rattle.daemon.specs.Built.{built_types}
 use Rattle.world_model.specs.declared.Said.TheVariants as said
 use Rattle.world_model.specs.Worlds.{Do, do_event}
 use Rattle.world_core.proofs.EventLemmas.{connection_acts}
