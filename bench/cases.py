@@ -3,15 +3,15 @@
 import struct
 import sys
 
-DIRECTORY, READ, INTRODUCE, RELEASE, WRITE, MKDIR, RM, SET_PERMS = 1, 2, 8, 9, 11, 12, 13, 14
+DIRECTORY, READ, START, END, INTRODUCE, RELEASE, WRITE, MKDIR, RM, SET_PERMS = 1, 2, 6, 7, 8, 9, 11, 12, 13, 14
 
 
-def message(kind, payload, req=0):
-    return struct.pack("<IIII", kind, req, 0, len(payload)) + payload
+def message(kind, payload, req=0, tx=0):
+    return struct.pack("<IIII", kind, req, tx, len(payload)) + payload
 
 
-def ask(domid, kind, payload, turns=1):
-    print("send %d %s" % (domid, message(kind, payload).hex()))
+def ask(domid, kind, payload, turns=1, tx=0):
+    print("send %d %s" % (domid, message(kind, payload, tx=tx).hex()))
     print("serve %d\n" % domid * turns, end="")
 
 
@@ -169,6 +169,50 @@ def domain_lowest_id(count, size):
     domains(range(1, size + 1))
     ask(0, RELEASE, b"1\0")
     come_and_go(count, 1)
+
+
+# Transactions.
+
+
+def flat_nodes(size):
+    for i in range(size):
+        ask(0, WRITE, b"/node%06d\0value" % (i * 7919 % size))
+
+
+def short_transactions(count, size):
+    """START, READ of one node among so many, and END; a unit is the three."""
+    flat_nodes(size)
+    for i in range(count):
+        ask(0, START, b"\0")
+        ask(0, READ, b"/node%06d\0" % (i * 104729 % size), tx=1)
+        ask(0, END, b"T\0", tx=1)
+
+
+def empty_transactions(count, size):
+    """START and END in a store of so many nodes and one."""
+    flat_nodes(size)
+    for i in range(count):
+        ask(0, START, b"\0")
+        ask(0, END, b"F\0", tx=1)
+
+
+def long_transaction(count):
+    """WRITEs of new nodes in one transaction, and its END; a unit is a request."""
+    if count:
+        ask(0, START, b"\0")
+    for i in range(count):
+        ask(0, WRITE, b"/node%06d\0value" % (i * 7919 % count), tx=1)
+    if count:
+        ask(0, END, b"T\0", tx=1)
+
+
+def beside_open(count, size):
+    """WRITEs of a node outside of transactions, while so many are open that looked at nothing."""
+    ask(0, WRITE, b"/a\0value")
+    for i in range(size):
+        ask(0, START, b"\0")
+    for i in range(count):
+        ask(0, WRITE, b"/a\0other")
 
 
 # Scripts.

@@ -63,6 +63,16 @@ row units 4500 8000 'one READ of one of 1000 domains' domain_read:1000 1000
 row units 11000 18000 'RELEASE and INTRODUCE of the lowest domid among 10000' domain_lowest:10000 500
 row units 6100 17000 '10000 nodes `/local/domain/I/device/vif/J/state` written, then read, a request' host_nodes 20000
 
+row units - 20000 'transactions: START, READ and END of one of 10000 nodes, the three' short_transactions:10000 1000
+row units 5000 9000 'transactions: 1000 WRITEs in one and its END, a request' long_transaction 1000
+row units - - 'transactions: 10000 WRITEs in one and its END, a request' long_transaction 10000
+for size in 0 1 10 100; do
+  row units - - "transactions: WRITE outside of them, open ones: $size" "beside_open:$size" 300
+done
+for size in 0 100000; do
+  row units - - "transactions: START and END in a store of nodes: $size" "empty_transactions:$size" 300
+done
+
 row units 15000 - 'depth: READ of an absent path of 60 levels' absent:60 200
 row units 730000 - 'depth: READ of an absent path of 960 levels' absent:960 20
 row seconds 0.05 - '16000 head lines `domain` in falling order, seconds' falling_domains 16000
