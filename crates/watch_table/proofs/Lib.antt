@@ -1,0 +1,4 @@
+pub mod KeyLemmas
+pub mod EntryLemmas
+pub mod TableLemmas
+pub mod PlaceLemmas
