@@ -1,6 +1,7 @@
 pub mod CommitLemmas
 pub mod CommitNumbers
 pub mod Conflicts
+pub mod EntryLemmas
 pub mod Nearest
 pub mod NextSeen
 pub mod NoteLemmas

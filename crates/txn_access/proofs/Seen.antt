@@ -11,8 +11,8 @@ use Rattle.xs_model.specs.Trees.{Node, Tree, node_at, edited_at, edited}
 use Rattle.xs_model.proofs.Maps.{found_put, sorted_put, same_maps}
 use Rattle.xs_model.proofs.PathLemmas.{path_total, path_exact, same_path-is}
 use Rattle.xs_model.proofs.EditLemmas.{node_at-edited, node_at-edited_at, after_edits, sorted_edit, sorted_edits}
-use Rattle.mark_model.specs.Marks.{Mark, Marks, mark_at, is_changed, shown, edit_of, edits_by, overlay, written_mark, write}
-use Rattle.txn_access.specs.Sights.{shown_over, seen_by}
+use Rattle.mark_model.specs.Marks.{Mark, Marks, mark_at, is_changed, shown, written, edit_of, edits_by, overlay, committed, written_mark, write}
+use Rattle.txn_access.specs.Sights.{shown_over, seen_by, left_by}
 
 -- a path before all marks has none
 pub unmarked : (p : Path) (ms : Marks) → below_all path_cmp p ms ≡ true → mark_at ms p ≡ None
@@ -55,6 +55,14 @@ read_shown (Some m) under = refl
 
 pub seen_at : (tree : Tree) (ms : Marks) (q : Path) → is_sorted path_cmp ms ≡ true → node_at (overlay tree ms) q ≡ seen_by (mark_at ms q) (node_at tree q)
 seen_at tree ms q s = read_at shown tree ms q s ∙ read_shown (mark_at ms q) (node_at tree q)
+
+read_written : (m : Option Mark) (under : Option Node) → read_by written m under ≡ left_by m under
+read_written None under = refl
+read_written (Some m) under = refl
+
+-- what a commit leaves
+pub left_at : (tree : Tree) (ms : Marks) (q : Path) → is_sorted path_cmp ms ≡ true → node_at (committed tree ms) q ≡ left_by (mark_at ms q) (node_at tree q)
+left_at tree ms q s = read_at written tree ms q s ∙ read_written (mark_at ms q) (node_at tree q)
 
 -- A WRITE is seen as the edit
 shows_new : (new : Option Node) (others : Bool) (under : Option Node) → seen_by (Some (written_mark new others)) under ≡ new

@@ -1,3 +1,4 @@
+pub mod Entries
 pub mod MarkViews
 pub mod Overlays
 pub mod OverlayProofs

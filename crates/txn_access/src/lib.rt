@@ -5,6 +5,10 @@
 #![tactic(auto)]
 
 mod commit;
+mod copies;
+mod entries;
+mod entry;
+mod laws;
 mod mark;
 mod marks;
 mod names;
@@ -12,8 +16,12 @@ mod overlays;
 mod plan;
 #[cfg(test)]
 mod tests;
+mod told;
 mod txn;
 
+pub use entries::Entries;
+pub use entry::EntryKind;
+pub use laws::told_marks_are_whole;
 pub use overlays::Overlay;
 pub use plan::Plan;
 pub use txn::Txn;

@@ -4,7 +4,7 @@ ghost use Rattle.std.specs.Prelude.{◌≡◌, Some, None, is_some};
 ghost use Rattle.std.specs.Option.{option_copied, option_map};
 ghost use Rattle.mark_model.specs.Marks.{Seen, accessed_mark, written_mark, noted_mark, is_changed, is_conflict, written};
 ghost use Rattle.txn_access.specs.MarkViews.{mark_of};
-ghost use Rattle.txn_access.specs.Sights.{seen_by};
+ghost use Rattle.txn_access.specs.Sights.{seen_by, left_by};
 ghost use Rattle.txn_access.specs.Steps.{is_seen};
 ghost use Rattle.txn_access.specs.Txns.{wants_old};
 
@@ -157,6 +157,19 @@ impl Held {
             Mark::Kept(old) => old.as_ref(),
         }
     }
+
+    /// What a commit leaves at the path, over the node that stands in the tree.
+    pub fn left<'a>(&'a self, under: Option<&'a Node>) -> Option<&'a Node>
+        ensures { option_copied result ≡ left_by (Some self.now) (option_copied under.entry) }
+    {
+        match &self.mark {
+            Mark::Seen => under,
+            Mark::Changed(_) => under,
+            Mark::Wrote { node, .. } => Some(node),
+            Mark::Gone { others: _ } => None,
+            Mark::Kept(_) => under,
+        }
+    }
 }
 
 fn accessed(mark: Mark) -> Mark
@@ -171,7 +184,7 @@ fn accessed(mark: Mark) -> Mark
     }
 }
 
-fn written(node: Option<Node>, others: bool) -> Mark
+pub fn written(node: Option<Node>, others: bool) -> Mark
     ensures { mark_of result ≡ written_mark node others }
 {
     match node {

@@ -6,7 +6,7 @@ ghost use Rattle.node_tree.specs.KeptTree.{has_parent};
 ghost use Rattle.xs_model.specs.Perms.{new_root_perms};
 ghost use Rattle.xs_model.specs.Trees.{has_entry};
 
-use crate::{Overlay, Txn};
+use crate::{EntryKind, Overlay, Txn};
 use node_tree::{Node, Tree, View};
 use std::alloc::Global;
 use std::process::Abort;
@@ -124,5 +124,46 @@ fn written_nodes_are_seen_and_removed(rt: HostRuntime) -> Result<(), Fail> {
     assert!(rt; tree.node(&parent).is_some());
     let mut txn = Txn::start(alloc);
     assert!(rt; write_and_remove(&tree, &mut txn, at, node(alloc)?, again)?);
+    Ok(())
+}
+
+/// A transaction that removed `/c`, wrote `/a`, and knows that others changed `/b`.
+fn restored(alloc: Global) -> Result<Txn, Fail> {
+    let mut txn = Txn::start(alloc);
+    txn.restore(path(alloc, b"/c")?, EntryKind::Gone, false, None)?;
+    txn.restore(path(alloc, b"/b")?, EntryKind::Kept, true, None)?;
+    let node = node(alloc)?;
+    txn.restore(path(alloc, b"/a")?, EntryKind::Wrote, false, Some(node))?;
+    txn.restore_count(7);
+    Ok(txn)
+}
+
+#[test]
+fn restored_marks_are_told_in_order(rt: HostRuntime) -> Result<(), Fail> {
+    let copy = restored(rt.alloc())?.copy()?;
+    assert_eq!(rt; copy.count(), 7);
+    let (first, kind, changed, node) = copy.entry(0).ok_or("the first")?;
+    assert_eq!(rt; first.bytes(), b"/a".as_slice());
+    assert!(rt; kind == EntryKind::Wrote && !changed && node.is_some());
+    let mut left = copy.entries();
+    assert!(rt; left.next_entry().is_some());
+    let (second, kind, changed, node) = left.next_entry().ok_or("the second")?;
+    assert_eq!(rt; second.bytes(), b"/b".as_slice());
+    assert!(rt; kind == EntryKind::Kept && changed && node.is_none());
+    assert!(rt; left.next_entry().is_some() && left.next_entry().is_none());
+    assert!(rt; copy.entry(2).is_some() && copy.entry(3).is_none());
+    Ok(())
+}
+
+#[test]
+fn committed_nodes_are_known_before(rt: HostRuntime) -> Result<(), Fail> {
+    let alloc = rt.alloc();
+    let tree = Tree::new(alloc)?;
+    let txn = restored(alloc)?;
+    for (text, stands) in [(b"/a", true), (b"/b", false), (b"/c", false)] {
+        let node = txn.committed_node(&tree, &path(alloc, text)?);
+        assert_eq!(rt; node.is_some(), stands);
+    }
+    assert!(rt; txn.committed_node(&tree, &Path::root(alloc)?).is_some());
     Ok(())
 }

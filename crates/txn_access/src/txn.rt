@@ -6,7 +6,7 @@ ghost use Rattle.machine_model.specs.Transactions.{within_count};
 ghost use Rattle.mark_model.specs.Marks.{overlay, committed, written_paths, mark_at, access_all, note, note_all, write, has_conflict, first_conflict};
 ghost use Rattle.path_map.specs.Map.{most_kept};
 ghost use Rattle.txn_access.specs.Plans.{IsPlan};
-ghost use Rattle.txn_access.specs.Sights.{seen_by};
+ghost use Rattle.txn_access.specs.Sights.{seen_by, left_by};
 ghost use Rattle.txn_access.specs.Steps.{next_name, IsSpelled};
 ghost use Rattle.txn_access.specs.Txns.{IsTxn, Plans, note_each, wants_old};
 ghost use Rattle.xs_model.specs.Generations.{greatest, stamped};
@@ -31,10 +31,10 @@ const COUNT_MAX: u32 = 4294967295;
 #[derive(Debug, Drop)]
 pub struct Txn {
     pub(crate) map: PathMap<Held>,
-    count: u32,
+    pub(crate) count: u32,
     // What it is to note once a change is made.
-    pending: Vec<(Path, Option<Node>)>,
-    alloc: Global,
+    pub(crate) pending: Vec<(Path, Option<Node>)>,
+    pub(crate) alloc: Global,
 }
 
 impl Model for Txn {
@@ -198,6 +198,25 @@ impl Txn {
             Some(held) => held.over(under),
             None => under,
         }
+    }
+
+    /// What a commit leaves at a path over the node that stands in the tree.
+    fn left<'b>(&'b self, path: &Path, under: Option<&'b Node>) -> Option<&'b Node>
+        ensures { option_copied result ≡ left_by (mark_at self.now.marks path.now) (option_copied under.entry) }
+    {
+        match self.map.get(path) {
+            Some(held) => held.left(under),
+            None => under,
+        }
+    }
+
+    /// The node that stands at a path of a tree once this is committed to it. Takes no memory. Costs
+    /// O(log marks + log nodes) comparisons of paths.
+    pub fn committed_node<'a>(&'a self, tree: &'a Tree, path: &Path) -> Option<&'a Node>
+        ensures { option_copied result ≡ node_at (committed tree.now.nodes self.now.marks) path.now }
+    {
+        self.is_kept();
+        self.left(path, tree.node(path))
     }
 
     /// The next name above `leaf` among those of the children that it sees.
