@@ -1,0 +1,6 @@
+mod WholeLemmas
+mod WalkLemmas
+pub mod SentLemmas
+mod SetLemmas
+mod IndexedLemmas
+pub mod OwnLemmas

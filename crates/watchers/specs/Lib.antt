@@ -1,0 +1,3 @@
+pub mod Watched
+pub mod Owing
+pub mod Index
