@@ -1,5 +1,5 @@
 -- What a tree command does outside of transactions, and inside one.
-use Rattle.std.proofs.Common.{◌≡◌, ◌≢◌, ℕ, ◌+◌, ◌≤◌, ◌==◌, Bool, true, false, cond, nat_lt, List, [], ◌∷◌, map, length, Option, Some, None, Result, Ok, Err, OnErr, is_some, refl, sym, ap, subst, ◌∙◌, arith, le_refl, le_antisymm, ltb-false, ne_eqb}
+use Rattle.std.proofs.Common.{◌≡◌, ◌≢◌, ℕ, ◌+◌, ◌≤◌, ◌==◌, Bool, true, false, cond, nat_lt, List, [], ◌∷◌, map, length, Option, Some, None, Result, Ok, Err, IfOk, OnErr, is_some, refl, sym, ap, subst, ◌∙◌, arith, le_refl, le_antisymm, ltb-false, ne_eqb}
 use Rattle.std.specs.Option.{option_map, unwrap_or}
 use Rattle.std.specs.Ordering.{nat_cmp}
 use Rattle.std.specs.FinMap.{find, put, is_sorted}
@@ -13,8 +13,9 @@ use Rattle.xs_model.specs.Commands.{Outcome, command, command_edits, absent_of}
 use Rattle.xs_model.proofs.CommandLemmas.{command_keeps}
 use Rattle.xs_model.proofs.Maps.{not_both, found_map, sorted_map}
 use Rattle.machine_model.specs.declared.ConnSpec.{ConnSpec}
-use Rattle.machine_model.specs.Connections.{fresh, caller_of}
-use Rattle.machine_model.specs.Machine.{ran_by}
+use Rattle.machine_model.specs.Connections.{Connection, Connections, caller_of}
+use Rattle.machine_model.specs.History.{unsent_to, sent_to}
+use Rattle.machine_model.specs.Machine.{ran_by, change_sends}
 use Rattle.machine_model.specs.Transactions.{count_max, within_count, if_any, outcome_on}
 use Rattle.mark_model.specs.Laws.{IsMadeByMarks}
 use Rattle.mark_model.specs.Marks.{overlay, committed, written_paths, access_all, write_all}
@@ -28,15 +29,31 @@ use Rattle.txn_access.specs.Txns.{Txn}
 use Rattle.daemon.specs.declared.answer.Door.TheVariants.{Same}
 use Rattle.daemon.specs.declared.reply.Answer.{Answer}
 use Rattle.daemon.specs.Keeps.{machine_of, store_of}
-use Rattle.daemon.specs.Rows.{Rows, Txns, kept_txn, opens_in, opens_of, or_no_txns, txns_of}
-use Rattle.daemon.specs.Peers.{unsent_of}
-use Rattle.daemon.specs.Acts.{kept_by, IsWhole, Did}
-use Rattle.daemon.specs.Changes.{IsChanged}
+use Rattle.conn_rows.specs.Rows.{Rows, Txns, kept_txn, opens_in, opens_of, or_no_txns, txns_of}
+use Rattle.conn_rows.specs.Queued.{unsent_of}
+use Rattle.watchers.specs.Watched.{Watched, conns_of}
+use Rattle.conn_rows.specs.Sending.{crowding}
+use Rattle.daemon.specs.Peers.{Connected, MayAsk, conn_in}
+use Rattle.daemon.specs.Acts.{kept_by, reply_length, IsWhole, Did, IsCrowding}
+use Rattle.daemon.specs.Changes.{IsMade, WouldCrowd}
 use Rattle.daemon.specs.Commands.{IsRun, IsInside}
-use Rattle.daemon.proofs.KeepsLemmas.{keys_map, put_map, put_again, same_rising, same_there}
-use Rattle.daemon.proofs.FreshLemmas.{nothing_sent}
+use Rattle.conn_rows.proofs.IdEntries.{keys_map, put_map, put_again, same_rising, same_there}
+use Rattle.daemon.proofs.KeepsLemmas.{conns_keys}
+use Rattle.daemon.proofs.ValueLemmas.{same_ids}
+use Rattle.daemon.proofs.UnsentLemmas.{unsent_same}
+use Rattle.daemon.proofs.PeerLemmas.{connected}
 use Rattle.daemon.proofs.OpenTxns.{open_found, opens_put, ids_put}
-use Rattle.daemon.proofs.DoneLemmas.{connected, has_done, has_refused, store_changed, ids_changed}
+use Rattle.daemon.proofs.DoneLemmas.{has_sent, has_done, has_refused, store_changed, ids_changed, kept_unchanged}
+
+-- A CHANGE in two ways
+record IsChangeOf (tree : Tree) (written : List Path) (tree_too : Tree) (written_too : List Path) (k : KeptStore) : Type 0 where
+  store : changed_store tree written k ≡ changed_store tree_too written_too k
+  sends : change_sends k.machine.tree written tree k.machine.conns ≡ change_sends k.machine.tree written_too tree_too k.machine.conns
+
+-- a change of nothing sends nothing
+pub no_change_sends : (tree : Tree) (conns : Connections) → change_sends tree [] tree conns ≡ []
+no_change_sends tree [] = refl
+no_change_sends tree (e ∷ conns) = no_change_sends tree conns
 
 -- OUTSIDE
 no_edits : (es : List Edit) → edit_paths es ≡ [] → es ≡ []
@@ -47,9 +64,9 @@ no_edits (e ∷ es) h = cc
 abbrev pub nothing : Txn
 nothing = record { marks = []; count = 0; spare = 0; kept = 0; pending = [] }
 
-module _ (c : ℕ) (tree : KeptTree) (specs : Specs) (rows : Rows) (whole : IsWhole tree (connected specs rows)) (spec : ConnSpec) (operation : Operation) (path : Path) where
+module _ (c : ℕ) (tree : KeptTree) (specs : Specs) (watched : Watched) (rows : Rows) (whole : IsWhole tree (connected specs watched rows)) (may : MayAsk c (connected specs watched rows)) (spec : ConnSpec) (operation : Operation) (path : Path) where
   abbrev k : KeptStore
-  k = store_of (kept_by tree (connected specs rows))
+  k = store_of (kept_by tree (connected specs watched rows))
 
   abbrev outcome : Outcome
   outcome = command operation path (caller_of spec) (generation_of tree.gens path) tree.nodes
@@ -78,25 +95,49 @@ module _ (c : ℕ) (tree : KeptTree) (specs : Specs) (rows : Rows) (whole : IsWh
     pub outside_tree : IsTree (committed tree.nodes ran.marks)
     outside_tree = subst IsTree (sym tree_here) (command_keeps tree.nodes whole.store.tree operation path (caller_of spec) (generation_of tree.gens path))
 
-    module _ (answer : Answer) (replied : answer.reply ≡ did.reply) (door : answer.door ≡ Same) where
-      sends : done.sends ≡ []
-      sends = nothing_sent tree.nodes outcome.written outcome.tree specs
+    reply_here : did.reply ≡ done.reply
+    reply_here = run_here.outcome.reply
 
-      pub outside_unwritten : did.written ≡ [] → Did c tree (connected specs rows) done answer tree (connected specs rows)
-      outside_unwritten none =
-          let without : edits ≡ [] = no_edits edits (sym run_here.outcome.written ∙ none) in
-          has_refused c tree (connected specs rows) whole.sound done answer (replied ∙ run_here.outcome.reply) door sends
-          (λ i. changed_store (edited tree.nodes (without i)) (edit_paths (without i)) k) whole.counter
+    abbrev before : Connected
+    before = connected specs watched rows
 
-      pub outside_written : (new : KeptTree) (left : Rows) → IsChanged ran.marks tree rows new left → Did c tree (connected specs rows) done answer new (connected specs left)
-      outside_written new left is =
-          let one_way : changed_store outcome.tree outcome.written k ≡ changed_store (committed tree.nodes ran.marks) (written_paths ran.marks) k =
-          (same_change outcome.tree (edit_paths edits) (written_paths (write_all edits [])) k [] whole.store (λ p. sym (made.paths p))).store
-          ∙ (λ i. changed_store (sym tree_here i) (written_paths (sym marks_here i)) k)
-          in
-          has_done c tree (connected specs rows) whole.sound done answer (replied ∙ run_here.outcome.reply) door sends new (connected specs left) refl is.queues
-          (ids_changed ran.marks tree new rows left is ∙ keys_map opens_in rows.txns ∙ whole.sound.rows)
-          (one_way ∙ store_changed ran.marks tree new rows left is specs) is.counter
+    pub outside_unwritten : (answer : Answer) → answer.reply ≡ did.reply → answer.door ≡ Same → answer.owed ≡ [] → IfOk did.reply (λ payload. length payload ≤ 4096) → did.written ≡ [] → Did c tree before done answer tree before
+    outside_unwritten answer replied door owes short none =
+        let without : edits ≡ [] = no_edits edits (sym run_here.outcome.written ∙ none) in
+        has_refused c tree before whole.sound done answer (replied ∙ reply_here) door may owes
+        ((λ i. change_sends tree.nodes (edit_paths (without i)) (edited tree.nodes (without i)) (conns_of specs watched)) ∙ no_change_sends tree.nodes (conns_of specs watched))
+        (subst (λ r. IfOk r (λ payload. length payload ≤ 4096)) (sym replied) short)
+        (λ i. changed_store (edited tree.nodes (without i)) (edit_paths (without i)) k) whole.counter
+
+    -- the change is that of its marks
+    one_way : IsChangeOf outcome.tree outcome.written (committed tree.nodes ran.marks) (written_paths ran.marks) k
+    one_way =
+        let alike = same_change outcome.tree (edit_paths edits) (written_paths (write_all edits [])) k (conns_of specs watched) whole.store (λ p. sym (made.paths p)) in
+        record {
+          store = alike.store ∙ (λ i. changed_store (sym tree_here i) (written_paths (sym marks_here i)) k);
+          sends = alike.sends ∙ (λ i. change_sends tree.nodes (written_paths (sym marks_here i)) (sym tree_here i) (conns_of specs watched));
+        }
+
+    module _ (n : ℕ) (count : n ≡ reply_length did.reply) (new : KeptTree) (left : Rows) where
+      pub outside_written : (answer : Answer) → answer.reply ≡ did.reply → answer.door ≡ Same → IsMade c n ran.marks specs watched tree rows rows answer.owed new left → Did c tree before done answer new (connected specs watched left)
+      outside_written answer replied door is =
+          has_sent c tree before whole.sound done answer (replied ∙ reply_here) door new (connected specs watched left) refl refl is.changed.unsent
+          (ids_changed ran.marks tree new rows left is.changed ∙ keys_map opens_in rows.txns ∙ whole.sound.rows)
+          (one_way.store ∙ store_changed ran.marks tree new rows left is.changed specs watched) is.changed.counter
+          (λ d. ap (sent_to d) one_way.sends ∙ is.owed.owes d) is.room
+          (ap (λ m. crowding c m answer.owed (unsent_of rows.queues)) (ap reply_length replied ∙ sym count) ∙ is.owed.crowds)
+
+      pub outside_crowded : (d : ℕ) → WouldCrowd c n ran.marks specs watched tree rows d new left → IsCrowding c tree before done d new (connected specs watched left)
+      outside_crowded d is = record {
+        owed = is.owed.0;
+        sends = λ e. ap (sent_to e) one_way.sends ∙ is.owed.1.owes e;
+        crowds = (λ i. crowding c (reply_length (sym reply_here i)) is.owed.0 (same_conns i))
+            ∙ ap (λ m. crowding c m is.owed.0 (unsent_of rows.queues)) (sym count) ∙ is.owed.1.crowds;
+        unchanged = (kept_unchanged tree specs watched rows new left is.unchanged, is.unchanged.counter);
+      }
+        where
+          same_conns : map (λ e. (e.0, unsent_to e.0 (unsent_of rows.queues))) (conns_of specs watched) ≡ unsent_of rows.queues
+          same_conns = same_ids (λ k. unsent_to k (unsent_of rows.queues)) (conns_of specs watched) specs (conns_keys watched specs) ∙ sym (unsent_same before whole.sound specs refl)
 
 -- INSIDE. At most so many paths are looked at
 way_length : (p : Path) (ns : List Name) → length (way_down p ns) ≡ length ns + 1
@@ -176,48 +217,51 @@ pub number_or_zero : (o : Option ℕ) → unwrap_or o 0 ≡ or_zero o
 number_or_zero None = refl
 number_or_zero (Some n) = refl
 
-module _ (c tx : ℕ) (inside : 1 ≤ tx) (tree : KeptTree) (specs : Specs) (rows : Rows) (whole : IsWhole tree (connected specs rows)) (spec : ConnSpec) (there : find nat_cmp c specs ≡ Some spec) (operation : Operation) (path : Path) where
+module _ (c tx : ℕ) (inside : 1 ≤ tx) (tree : KeptTree) (specs : Specs) (watched : Watched) (rows : Rows) (whole : IsWhole tree (connected specs watched rows)) (may : MayAsk c (connected specs watched rows)) (spec : ConnSpec) (there : find nat_cmp c specs ≡ Some spec) (operation : Operation) (path : Path) where
   abbrev kept : KeptStore
-  kept = store_of (kept_by tree (connected specs rows))
+  kept = store_of (kept_by tree (connected specs watched rows))
+
+  abbrev asks : Connection
+  asks = conn_in (connected specs watched rows) c spec
 
   abbrev act_inside : KeptDone
-  act_inside = kept_command kept c (fresh spec) tx operation path
+  act_inside = kept_command kept c asks tx operation path
 
   not_zero : tx ≢ 0
   not_zero = λ same. omega (arith, same, inside)
 
-  acts : (o : Option KeptTransaction) → find nat_cmp tx (opens_at c (opens_of rows.txns)) ≡ o → act_inside ≡ kept_inside kept c (fresh spec) tx operation path o
+  acts : (o : Option KeptTransaction) → find nat_cmp tx (opens_at c (opens_of rows.txns)) ≡ o → act_inside ≡ kept_inside kept c asks tx operation path o
   acts o found =
-      ap (λ (b : Bool). cond b (kept_outside kept (outcome_on tree.nodes (ran_by (fresh spec) operation path (generation_of tree.gens path)))) (kept_inside kept c (fresh spec) tx operation path (find nat_cmp tx (opens_at c (opens_of rows.txns))))) (ne_eqb tx 0 not_zero)
-      ∙ ap (kept_inside kept c (fresh spec) tx operation path) found
+      ap (λ (b : Bool). cond b (kept_outside kept (outcome_on tree.nodes (ran_by asks operation path (generation_of tree.gens path)))) (kept_inside kept c asks tx operation path (find nat_cmp tx (opens_at c (opens_of rows.txns))))) (ne_eqb tx 0 not_zero)
+      ∙ ap (kept_inside kept c asks tx operation path) found
 
-  pub inside_absent : (answer : Answer) → answer.reply ≡ Err Enoent → answer.door ≡ Same → find nat_cmp tx (txns_of c rows.txns) ≡ None → Did c tree (connected specs rows) act_inside answer tree (connected specs rows)
-  inside_absent answer replied door absent =
-      subst (λ (d : KeptDone). Did c tree (connected specs rows) d answer tree (connected specs rows)) (sym (acts None (open_found c tx rows.txns ∙ ap (option_map kept_txn) absent)))
-      (has_refused c tree (connected specs rows) whole.sound (kept_refused Enoent kept) answer replied door refl refl whole.counter)
+  pub inside_absent : (answer : Answer) → answer.reply ≡ Err Enoent → answer.door ≡ Same → answer.owed ≡ [] → find nat_cmp tx (txns_of c rows.txns) ≡ None → Did c tree (connected specs watched rows) act_inside answer tree (connected specs watched rows)
+  inside_absent answer replied door owes absent =
+      subst (λ (d : KeptDone). Did c tree (connected specs watched rows) d answer tree (connected specs watched rows)) (sym (acts None (open_found c tx rows.txns ∙ ap (option_map kept_txn) absent)))
+      (has_refused c tree (connected specs watched rows) whole.sound (kept_refused Enoent kept) answer replied door may owes refl (subst (λ r. IfOk r (λ payload. length payload ≤ 4096)) (sym replied) tt) refl whole.counter)
 
   pub inside_ran : (old new : Txn) (left : Rows) (answer : Answer) (reply : Result (List ℕ) WireErr) → find nat_cmp tx (txns_of c rows.txns) ≡ Some old → IsInside spec operation path tree.nodes (kept_txn old) reply (kept_txn new)
-      → answer.reply ≡ reply → answer.door ≡ Same → left.queues ≡ rows.queues → left.txns ≡ put nat_cmp c (put nat_cmp tx new (txns_of c rows.txns)) rows.txns
-      → Did c tree (connected specs rows) act_inside answer tree (connected specs left)
-  inside_ran old new left answer reply found is replied door queues puts =
-      let opens : opens_of left.txns ≡ put nat_cmp c (put nat_cmp tx (ran_over tree.nodes (ran_by (fresh spec) operation path old.count) (kept_txn old)) (opens_at c (opens_of rows.txns))) (opens_of rows.txns) =
+      → answer.reply ≡ reply → answer.door ≡ Same → answer.owed ≡ [] → IfOk reply (λ payload. length payload ≤ 4096) → left.queues ≡ rows.queues → left.txns ≡ put nat_cmp c (put nat_cmp tx new (txns_of c rows.txns)) rows.txns
+      → Did c tree (connected specs watched rows) act_inside answer tree (connected specs watched left)
+  inside_ran old new left answer reply found is replied door owes short queues puts =
+      let opens : opens_of left.txns ≡ put nat_cmp c (put nat_cmp tx (ran_over tree.nodes (ran_by asks operation path old.count) (kept_txn old)) (opens_at c (opens_of rows.txns))) (opens_of rows.txns) =
       ap opens_of puts ∙ opens_put c tx new rows.txns ∙ ap (λ (t : KeptTransaction). put nat_cmp c (put nat_cmp tx t (opens_at c (opens_of rows.txns))) (opens_of rows.txns)) is.kept
       in
-      subst (λ (d : KeptDone). Did c tree (connected specs rows) d answer tree (connected specs left)) (sym (acts (Some (kept_txn old)) (open_found c tx rows.txns ∙ ap (option_map kept_txn) found)))
-      (has_done c tree (connected specs rows) whole.sound (kept_inside kept c (fresh spec) tx operation path (Some (kept_txn old))) answer (replied ∙ is.reply) door refl tree (connected specs left) refl queues
+      subst (λ (d : KeptDone). Did c tree (connected specs watched rows) d answer tree (connected specs watched left)) (sym (acts (Some (kept_txn old)) (open_found c tx rows.txns ∙ ap (option_map kept_txn) found)))
+      (has_done c tree (connected specs watched rows) whole.sound (kept_inside kept c asks tx operation path (Some (kept_txn old))) answer (replied ∙ is.reply) door may owes refl (subst (λ r. IfOk r (λ payload. length payload ≤ 4096)) (sym replied) short) tree (connected specs watched left) refl refl queues
       (ap (λ (os : List (ℕ × Opens)). map (λ e. e.0) os) opens
-      ∙ ids_put c (put nat_cmp tx (ran_over tree.nodes (ran_by (fresh spec) operation path old.count) (kept_txn old)) (opens_at c (opens_of rows.txns))) (opens_of rows.txns) spec specs whole.sound.table.table.rising there (keys_map opens_in rows.txns ∙ whole.sound.rows))
-      (λ i. record { machine = machine_of tree.nodes tree.gens specs; opens = sym opens i }) whole.counter)
+      ∙ ids_put c (put nat_cmp tx (ran_over tree.nodes (ran_by asks operation path old.count) (kept_txn old)) (opens_at c (opens_of rows.txns))) (opens_of rows.txns) spec specs whole.sound.table.table.rising there (keys_map opens_in rows.txns ∙ whole.sound.rows))
+      (λ i. record { machine = machine_of tree.nodes tree.gens specs watched; opens = sym opens i }) whole.counter)
 
 -- refused, it is put back as it was
 pub on_err : {X E : Type 0} (P : Type 0) (r : Result X E) → P → OnErr r P
 on_err P (Ok x) p = tt
 on_err P (Err e) p = p
 
-pub same_put_back : (c tx : ℕ) (tree : KeptTree) (specs : Specs) (rows : Rows) → IsWhole tree (connected specs rows) → (spec : ConnSpec) → find nat_cmp c specs ≡ Some spec → (old new : Txn) → find nat_cmp tx (txns_of c rows.txns) ≡ Some old
+pub same_put_back : (c tx : ℕ) (tree : KeptTree) (specs : Specs) (watched : Watched) (rows : Rows) → IsWhole tree (connected specs watched rows) → (spec : ConnSpec) → find nat_cmp c specs ≡ Some spec → (old new : Txn) → find nat_cmp tx (txns_of c rows.txns) ≡ Some old
     → is_sorted nat_cmp (txns_of c rows.txns) ≡ true → kept_txn new ≡ kept_txn old → (left : Rows) → left.queues ≡ rows.queues → left.txns ≡ put nat_cmp c (put nat_cmp tx new (txns_of c rows.txns)) rows.txns
-    → kept_by tree (connected specs left) ≡ kept_by tree (connected specs rows)
-same_put_back c tx tree specs rows whole spec there old new found rising same left queues puts =
+    → kept_by tree (connected specs watched left) ≡ kept_by tree (connected specs watched rows)
+same_put_back c tx tree specs watched rows whole spec there old new found rising same left queues puts =
     let here : Txns = txns_of c rows.txns in
     let inner : opens_in (put nat_cmp tx new here) ≡ opens_in here =
     put_map kept_txn tx new here ∙ ap (λ (t : KeptTransaction). put nat_cmp tx t (opens_in here)) same
@@ -230,7 +274,7 @@ same_put_back c tx tree specs rows whole spec there old new found rising same le
     let opens : opens_of left.txns ≡ opens_of rows.txns =
     ap opens_of puts ∙ put_map opens_in c (put nat_cmp tx new here) rows.txns ∙ ap (λ (os : Opens). put nat_cmp c os (opens_of rows.txns)) inner ∙ put_again c (opens_in here) (opens_of rows.txns) outer_rising row_there
     in
-    λ i. record { tree = tree.nodes; gens = tree.gens; specs = specs; opens = opens i; unsent = unsent_of (queues i) }
+    λ i. record { tree = tree.nodes; gens = tree.gens; specs = specs; watched = watched; opens = opens i; unsent = unsent_of (queues i) }
   where
     row : (o : Option Txns) → is_some o ≡ true → option_map opens_in o ≡ Some (opens_in (or_no_txns o))
     row None h = cc

@@ -13,7 +13,7 @@ use Rattle.mark_model.specs.Stores.{without_transactions}
 use Rattle.daemon.specs.declared.answer.Door.{Door}
 use Rattle.daemon.specs.declared.answer.Door.TheVariants.{Same, Opened, Closed}
 use Rattle.daemon.specs.Acts.{Opens, Closes, IsDoor}
-use Rattle.daemon.proofs.KeepsLemmas.{put_map, keys_map, same_there, found_at, found_itself}
+use Rattle.conn_rows.proofs.IdEntries.{put_map, keys_map, same_there, found_at, found_itself}
 use Rattle.daemon.proofs.ShapeLemmas.{Shape, Stays, Comes, Goes}
 
 abbrev pub bares : Connections → Connections

@@ -12,8 +12,8 @@ use Rattle.machine_model.specs.declared.ConnSpec.{ConnSpec}
 use Rattle.mark_model.specs.Stores.{KeptTransaction, IsKeptTransaction, Opens, opens_of as opens_at, or_no_opens, without_open, noted, noted_all}
 use Rattle.conn_table.specs.Tables.{Specs}
 use Rattle.txn_access.specs.Txns.{Txn, Plans}
-use Rattle.daemon.specs.Rows.{Txns, kept_txn, opens_in, opens_of, or_no_txns, txns_of, EachTxn, ArePlanned, HaveRoom}
-use Rattle.daemon.proofs.KeepsLemmas.{put_map, where_map, keys_map, same_put, put_again}
+use Rattle.conn_rows.specs.Rows.{Txns, kept_txn, opens_in, opens_of, or_no_txns, txns_of, EachTxn, ArePlanned, HaveRoom}
+use Rattle.conn_rows.proofs.IdEntries.{put_map, where_map, keys_map, same_put, put_again}
 
 -- without one of them
 abbrev pub without : ℕ → Txns → Txns

@@ -1,12 +1,11 @@
 -- Connections with what is unsent to each stay sound.
-use Rattle.std.proofs.Common.{◌≡◌, ℕ, ◌+◌, ◌<◌, ◌≤◌, Bool, true, false, cond, List, [], ◌∷◌, ◌++◌, length, map, drop, Option, Some, None, is_some, refl, sym, ap, subst, ◌∙◌, arith, le_trans, le_refl, length-drop}
+use Rattle.std.proofs.Common.{◌≡◌, ℕ, ◌+◌, ◌<◌, ◌≤◌, Bool, true, false, ◌||◌, cond, List, [], ◌∷◌, length, map, drop, Option, Some, None, is_some, refl, sym, ap, subst, ◌∙◌, arith, le_trans, le_refl, length-drop}
 use Rattle.std.specs.List.{AllByRecursion}
-use Rattle.std.specs.Option.{option_map}
 use Rattle.std.specs.declared.cmp.Ordering.TheVariants.{Less, Equal, Greater}
 use Rattle.std.specs.Ordering.{nat_cmp}
 use Rattle.std.specs.FinMap.{find, put, is_sorted, nat_cmp-IsAntisymmetric}
 use Rattle.std.specs.FinMap.Entries.{where_key, by_order}
-use Rattle.xs_model.proofs.Maps.{from_Some, found_map, sorted_map, all_put, all_where, all_found, keys_put, keys_where, keys_found}
+use Rattle.xs_model.proofs.Maps.{from_Some, all_put, all_where, all_found, keys_put, keys_where, keys_found}
 use Rattle.machine_model.specs.declared.ConnSpec.{ConnSpec}
 use Rattle.machine_model.specs.declared.ConnSpec.TheVariants.{Ring, Socket}
 use Rattle.machine_model.specs.Connections.{with_evtchn, with_target}
@@ -14,38 +13,14 @@ use Rattle.out_queues.specs.Queues.{Queue}
 use Rattle.conn_table.specs.Tables.{Specs, IsTable, IsDomain, is_socket, count_sockets}
 use Rattle.conn_table.proofs.SmallLemmas.{tables_are_small}
 use Rattle.machine_model.specs.declared.bounds.TheConstants.{CROWD_LIMIT}
-use Rattle.daemon.specs.Peers.{Connected, unsent_of, IsInBounds, IsSoundTable, IsSound, HasRoom, Moves, PulledFrom}
-use Rattle.daemon.proofs.KeepsLemmas.{put_map, keys_map, same_put, same_where, same_rising, found_itself, put_again}
-
--- UNSENT BYTES by connection
-pub unsent_put : (c : ℕ) (queue : Queue) (queues : List (ℕ × Queue)) (bytes : List ℕ) → queue.bytes ≡ bytes → unsent_of (put nat_cmp c queue queues) ≡ put nat_cmp c bytes (unsent_of queues)
-unsent_put c queue queues bytes is = put_map (λ q. q.bytes) c queue queues ∙ ap (λ b. put nat_cmp c b (unsent_of queues)) is
-
-pub unsent_found : (c : ℕ) (queues : List (ℕ × Queue)) → find nat_cmp c (unsent_of queues) ≡ option_map (λ q. q.bytes) (find nat_cmp c queues)
-unsent_found c queues = found_map nat_cmp (λ (q : Queue). q.bytes) c queues
-
-pub unsent_rising : (queues : List (ℕ × Queue)) → is_sorted nat_cmp (unsent_of queues) ≡ is_sorted nat_cmp queues
-unsent_rising queues = sorted_map nat_cmp (λ (q : Queue). q.bytes) queues
-
--- a queue with the bytes of the one that is there
-pub unsent_kept : (c : ℕ) (old new : Queue) (queues : List (ℕ × Queue)) → is_sorted nat_cmp queues ≡ true → find nat_cmp c queues ≡ Some old → new.bytes ≡ old.bytes → unsent_of (put nat_cmp c new queues) ≡ unsent_of queues
-unsent_kept c old new queues rising there is =
-    unsent_put c new queues old.bytes is
-    ∙ put_again c old.bytes (unsent_of queues) (unsent_rising queues ∙ rising) (unsent_found c queues ∙ ap (option_map (λ q. q.bytes)) there)
-
--- a message more
-pub unsent_pushed : (c : ℕ) (old new : Queue) (message : List ℕ) (queues : List (ℕ × Queue)) → Some old ≡ find nat_cmp c queues → new.bytes ≡ old.bytes ++ message
-    → (bytes : List ℕ) → find nat_cmp c (unsent_of queues) ≡ Some bytes → unsent_of (put nat_cmp c new queues) ≡ put nat_cmp c (bytes ++ message) (unsent_of queues)
-unsent_pushed c old new message queues there is bytes found =
-    let had : old.bytes ≡ bytes = from_Some (ap (option_map (λ (q : Queue). q.bytes)) there ∙ sym (unsent_found c queues) ∙ found) in
-    unsent_put c new queues (bytes ++ message) (is ∙ ap (λ b. b ++ message) had)
-
-pub unsent_absent : (c : ℕ) (queues : List (ℕ × Queue)) → None ≡ find nat_cmp c queues → find nat_cmp c (unsent_of queues) ≡ None
-unsent_absent c queues absent = unsent_found c queues ∙ ap (option_map (λ (q : Queue). q.bytes)) (sym absent)
-
--- room that was taken
-pub room_put : (c n : ℕ) (new : Queue) (queues : List (ℕ × Queue)) → n ≤ new.spare → HasRoom c n (put nat_cmp c new queues)
-room_put c n new queues room = λ queue there. subst (λ (q : Queue). n ≤ q.spare) (from_Some (sym (found_itself c new queues) ∙ there)) room
+use Rattle.conn_rows.specs.Queued.{unsent_of, Moves, PulledFrom}
+use Rattle.machine_model.specs.Connections.{caller_of}
+use Rattle.conn_table.specs.Tables.{is_taken, has_its_ring}
+use Rattle.watchers.specs.Watched.{Watched, AreOwn}
+use Rattle.conn_rows.specs.Rows.{Rows}
+use Rattle.daemon.specs.Peers.{Connected, IsInBounds, IsSoundTable, IsSound}
+use Rattle.daemon.proofs.OwnLemmas.{AreThere, own_put, own_added, there_put, own_without, there_without}
+use Rattle.conn_rows.proofs.IdEntries.{keys_map, same_put, same_where, same_rising, put_again}
 
 -- SOCKETS: at most one more, and none with a ring
 count_put : (c : ℕ) (spec : ConnSpec) (specs : Specs) → count_sockets (put nat_cmp c spec specs) ≤ cond (is_socket spec) 1 0 + count_sockets specs
@@ -174,10 +149,37 @@ short_unsent (e ∷ es) h = (h.0, short_unsent es h.1)
 pub unsent_keys : (queues : List (ℕ × Queue)) → map (λ e. e.0) (unsent_of queues) ≡ map (λ e. e.0) queues
 unsent_keys queues = keys_map (λ (q : Queue). q.bytes) queues
 
+-- the connections of a table with these watches and these rows
+abbrev pub connected : Specs → Watched → Rows → Connected
+connected specs watched rows = record { specs = specs; watched = watched; queues = rows.queues; txns = rows.txns }
+
+-- the watches of a table
+abbrev pub Belong : Specs → Watched → Type 0
+Belong specs watched = AreOwn specs watched × AreThere specs watched
+
+pub belong_same : (specs specs_new : Specs) (watched watched_new : Watched) → specs_new ≡ specs → watched_new ≡ watched → Belong specs watched → Belong specs_new watched_new
+belong_same specs specs_new watched watched_new same still h =
+    subst (λ (ss : Specs). Belong ss watched_new) (sym same) (subst (λ (ws : Watched). Belong specs ws) (sym still) h)
+
+-- ids that are positive in one list are so in another with the same ids
+positive_keys : {X : Type 0} (es : List (ℕ × X)) → AllByRecursion (λ e. 1 ≤ e.0) es → AllByRecursion (λ k. 1 ≤ k) (map (λ e. e.0) es)
+positive_keys [] h = tt
+positive_keys (e ∷ es) h = (h.0, positive_keys es h.1)
+
+keys_positive : {X : Type 0} (es : List (ℕ × X)) → AllByRecursion (λ k. 1 ≤ k) (map (λ e. e.0) es) → AllByRecursion (λ e. 1 ≤ e.0) es
+keys_positive [] h = tt
+keys_positive (e ∷ es) h = (h.0, keys_positive es h.1)
+
+pub positive_ids : {X Y : Type 0} (es : List (ℕ × X)) (fs : List (ℕ × Y)) → map (λ e. e.0) es ≡ map (λ e. e.0) fs → AllByRecursion (λ e. 1 ≤ e.0) fs → AllByRecursion (λ e. 1 ≤ e.0) es
+positive_ids es fs same h = keys_positive es (subst (AllByRecursion (λ k. 1 ≤ k)) (sym same) (positive_keys fs h))
+
 -- by the bytes that are unsent
-pub sound_by : (peers : Connected) (unsent : List (ℕ × List ℕ)) → unsent_of peers.queues ≡ unsent → IsSoundTable peers.specs → map (λ e. e.0) unsent ≡ map (λ e. e.0) peers.specs → map (λ e. e.0) peers.txns ≡ map (λ e. e.0) peers.specs → AllByRecursion (λ e. length e.1 ≤ CROWD_LIMIT) unsent → IsSound peers
-sound_by peers unsent is table ids rows short = record {
+pub sound_by : (peers : Connected) (unsent : List (ℕ × List ℕ)) → unsent_of peers.queues ≡ unsent → IsSoundTable peers.specs → Belong peers.specs peers.watched → map (λ e. e.0) unsent ≡ map (λ e. e.0) peers.specs → map (λ e. e.0) peers.txns ≡ map (λ e. e.0) peers.specs
+    → AllByRecursion (λ e. length e.1 ≤ CROWD_LIMIT) unsent → IsSound peers
+sound_by peers unsent is table belong ids rows short = record {
   table = table;
+  own = belong.0;
+  watching = belong.1;
   ids = sym (unsent_keys peers.queues) ∙ ap (map (λ e. e.0)) is ∙ ids;
   rows = rows;
   short = short_queues peers.queues (subst (AllByRecursion (λ e. length e.1 ≤ CROWD_LIMIT)) (sym is) short);
@@ -187,74 +189,108 @@ module _ (peers : Connected) (sound : IsSound peers) where
   pub ids_unsent : map (λ e. e.0) (unsent_of peers.queues) ≡ map (λ e. e.0) peers.specs
   ids_unsent = unsent_keys peers.queues ∙ sound.ids
 
+  pub belongs : Belong peers.specs peers.watched
+  belongs = (sound.own, sound.watching)
+
+  pub ids_positive : AllByRecursion (λ e. 1 ≤ e.0) peers.queues
+  ids_positive = positive_ids peers.queues peers.specs sound.ids sound.table.ids
+
+  pub rising_unsent : is_sorted nat_cmp (unsent_of peers.queues) ≡ true
+  rising_unsent = same_rising (unsent_of peers.queues) peers.specs ids_unsent ∙ sound.table.table.rising
+
   -- the same transactions
   ids_txns : (new : Connected) → new.specs ≡ peers.specs → new.txns ≡ peers.txns → map (λ e. e.0) new.txns ≡ map (λ e. e.0) new.specs
   ids_txns new specs txns = ap (map (λ e. e.0)) txns ∙ sound.rows ∙ ap (map (λ e. e.0)) (sym specs)
 
   -- the same bytes
-  pub sound_same : (new : Connected) → new.specs ≡ peers.specs → new.txns ≡ peers.txns → unsent_of new.queues ≡ unsent_of peers.queues → IsSound new
-  sound_same new specs txns bytes =
-      sound_by new (unsent_of peers.queues) bytes (subst IsSoundTable (sym specs) sound.table) (ids_unsent ∙ ap (map (λ e. e.0)) (sym specs)) (ids_txns new specs txns) (short_unsent peers.queues sound.short)
+  pub sound_same : (new : Connected) → new.specs ≡ peers.specs → new.watched ≡ peers.watched → new.txns ≡ peers.txns → unsent_of new.queues ≡ unsent_of peers.queues → IsSound new
+  sound_same new specs watched txns bytes =
+      sound_by new (unsent_of peers.queues) bytes (subst IsSoundTable (sym specs) sound.table) (belong_same peers.specs new.specs peers.watched new.watched specs watched belongs)
+      (ids_unsent ∙ ap (map (λ e. e.0)) (sym specs)) (ids_txns new specs txns) (short_unsent peers.queues sound.short)
 
   -- other bytes of one connection
-  pub sound_put : (new : Connected) (c : ℕ) (bytes old : List ℕ) → find nat_cmp c (unsent_of peers.queues) ≡ Some old → length bytes ≤ CROWD_LIMIT → new.specs ≡ peers.specs → new.txns ≡ peers.txns → unsent_of new.queues ≡ put nat_cmp c bytes (unsent_of peers.queues) → IsSound new
-  sound_put new c bytes old there fits specs txns is =
+  sound_put : (new : Connected) (c : ℕ) (bytes old : List ℕ) → find nat_cmp c (unsent_of peers.queues) ≡ Some old → length bytes ≤ CROWD_LIMIT → new.specs ≡ peers.specs → new.watched ≡ peers.watched → new.txns ≡ peers.txns → unsent_of new.queues ≡ put nat_cmp c bytes (unsent_of peers.queues) → IsSound new
+  sound_put new c bytes old there fits specs watched txns is =
       let unsent = unsent_of peers.queues in
-      let rising = same_rising unsent peers.specs ids_unsent ∙ sound.table.table.rising in
-      sound_by new (put nat_cmp c bytes unsent) is (subst IsSoundTable (sym specs) sound.table)
-      (same_put unsent unsent refl c bytes old ∙ ap (map (λ e. e.0)) (put_again c old unsent rising there) ∙ ids_unsent ∙ ap (map (λ e. e.0)) (sym specs))
+      sound_by new (put nat_cmp c bytes unsent) is (subst IsSoundTable (sym specs) sound.table) (belong_same peers.specs new.specs peers.watched new.watched specs watched belongs)
+      (same_put unsent unsent refl c bytes old ∙ ap (map (λ e. e.0)) (put_again c old unsent rising_unsent there) ∙ ids_unsent ∙ ap (map (λ e. e.0)) (sym specs))
       (ids_txns new specs txns)
       (all_put nat_cmp (λ b. length b ≤ CROWD_LIMIT) c bytes unsent fits (short_unsent peers.queues sound.short))
 
   -- without the first of them
-  pub sound_pulled : (new : Connected) (c : ℕ) (into into_new : List ℕ) (n : ℕ) → new.specs ≡ peers.specs → new.txns ≡ peers.txns → Moves peers.queues c into new.queues into_new n → IsSound new
-  sound_pulled new c into into_new n specs txns moved =
+  pub sound_pulled : (new : Connected) (c : ℕ) (into into_new : List ℕ) (n : ℕ) → new.specs ≡ peers.specs → new.watched ≡ peers.watched → new.txns ≡ peers.txns → Moves peers.queues c into new.queues into_new n → IsSound new
+  sound_pulled new c into into_new n specs watched txns moved =
       let fits = all_found nat_cmp (λ (b : List ℕ). length b ≤ CROWD_LIMIT) c (unsent_of peers.queues) moved.bytes (short_unsent peers.queues sound.short) moved.there in
-      sound_put new c (drop n moved.bytes) moved.bytes moved.there (omega (arith, length-drop n moved.bytes, fits)) specs txns moved.unsent
+      sound_put new c (drop n moved.bytes) moved.bytes moved.there (omega (arith, length-drop n moved.bytes, fits)) specs watched txns moved.unsent
 
   -- a connection more, to which nothing is unsent
-  pub sound_added : (new : Connected) (c : ℕ) (spec : ConnSpec) → IsSoundTable new.specs → new.specs ≡ put nat_cmp c spec peers.specs → unsent_of new.queues ≡ put nat_cmp c [] (unsent_of peers.queues) → new.txns ≡ put nat_cmp c [] peers.txns → IsSound new
-  sound_added new c spec table specs is txns =
+  pub sound_added : (new : Connected) (c : ℕ) (spec : ConnSpec) → find nat_cmp c peers.specs ≡ None → IsSoundTable new.specs → new.specs ≡ put nat_cmp c spec peers.specs → new.watched ≡ peers.watched → unsent_of new.queues ≡ put nat_cmp c [] (unsent_of peers.queues) → new.txns ≡ put nat_cmp c [] peers.txns → IsSound new
+  sound_added new c spec absent table specs watched is txns =
       sound_by new (put nat_cmp c [] (unsent_of peers.queues)) is table
+      (belong_same (put nat_cmp c spec peers.specs) new.specs peers.watched new.watched specs watched (own_added peers.specs peers.watched sound.watching sound.own c spec absent, there_put peers.specs peers.watched sound.watching c spec))
       (same_put (unsent_of peers.queues) peers.specs ids_unsent c [] spec ∙ ap (map (λ e. e.0)) (sym specs))
       (ap (map (λ e. e.0)) txns ∙ same_put peers.txns peers.specs sound.rows c [] spec ∙ ap (map (λ e. e.0)) (sym specs))
       (all_put nat_cmp (λ b. length b ≤ CROWD_LIMIT) c [] (unsent_of peers.queues) (omega arith) (short_unsent peers.queues sound.short))
 
   -- without one
-  pub sound_without : (p : ℕ → Bool) → IsTable (where_key nat_cmp p peers.specs) → IsSound (record { specs = where_key nat_cmp p peers.specs; queues = where_key nat_cmp p peers.queues; txns = where_key nat_cmp p peers.txns })
+  pub sound_without : (p : ℕ → Bool) → IsTable (where_key nat_cmp p peers.specs)
+      → IsSound (record { specs = where_key nat_cmp p peers.specs; watched = where_key nat_cmp p peers.watched; queues = where_key nat_cmp p peers.queues; txns = where_key nat_cmp p peers.txns })
   sound_without p table = record {
     table = table_without peers.specs sound.table p table;
+    own = own_without p peers.specs peers.watched sound.own;
+    watching = there_without p peers.specs peers.watched sound.watching;
     ids = same_where peers.queues peers.specs sound.ids p;
     rows = same_where peers.txns peers.specs sound.rows p;
     short = all_where nat_cmp (λ (q : Queue). length q.bytes ≤ CROWD_LIMIT) p peers.queues sound.short;
   }
 
   -- with another end of one of them
-  pub sound_changed : (c : ℕ) (old spec : ConnSpec) → find nat_cmp c peers.specs ≡ Some old → IsSoundTable (put nat_cmp c spec peers.specs) → IsSound (record { specs = put nat_cmp c spec peers.specs; queues = peers.queues; txns = peers.txns })
-  sound_changed c old spec there table = record {
+  abbrev with_end : Specs → Connected
+  with_end specs = record { specs = specs; watched = peers.watched; queues = peers.queues; txns = peers.txns }
+
+  sound_changed : (c : ℕ) (old spec : ConnSpec) → find nat_cmp c peers.specs ≡ Some old → (caller_of spec).domid ≡ (caller_of old).domid → IsSoundTable (put nat_cmp c spec peers.specs) → IsSound (with_end (put nat_cmp c spec peers.specs))
+  sound_changed c old spec there same table = record {
     table = table;
+    own = own_put peers.specs peers.watched sound.watching sound.own c spec (λ other found. same ∙ ap (λ s. (caller_of s).domid) (from_Some (sym there ∙ found)));
+    watching = there_put peers.specs peers.watched sound.watching c spec;
     ids = sound.ids ∙ ap (map (λ e. e.0)) (sym (put_again c old peers.specs sound.table.table.rising there)) ∙ same_put peers.specs peers.specs refl c old spec;
     rows = sound.rows ∙ ap (map (λ e. e.0)) (sym (put_again c old peers.specs sound.table.table.rising there)) ∙ same_put peers.specs peers.specs refl c old spec;
     short = sound.short;
   }
 
-  pub evtchn_sound : (evtchn c : ℕ) (old spec : ConnSpec) (new : Specs) → find nat_cmp c peers.specs ≡ Some old → spec ≡ with_evtchn evtchn old → new ≡ put nat_cmp c spec peers.specs → IsTable new → IsSound (record { specs = new; queues = peers.queues; txns = peers.txns })
+  pub evtchn_sound : (evtchn c : ℕ) (old spec : ConnSpec) (new : Specs) → find nat_cmp c peers.specs ≡ Some old → spec ≡ with_evtchn evtchn old → new ≡ put nat_cmp c spec peers.specs → IsTable new → IsSound (with_end new)
   evtchn_sound evtchn c old spec new there is puts table =
       let puts_it : new ≡ put nat_cmp c (with_evtchn evtchn old) peers.specs = puts ∙ ap (λ s. put nat_cmp c s peers.specs) is in
-      subst (λ n. IsSound (record { specs = n; queues = peers.queues; txns = peers.txns })) (sym puts_it)
-      (sound_changed c old (with_evtchn evtchn old) there (evtchn_changed peers.specs sound.table evtchn c old there (subst IsTable puts_it table)))
+      subst (λ n. IsSound (with_end n)) (sym puts_it)
+      (sound_changed c old (with_evtchn evtchn old) there (same_domid old) (evtchn_changed peers.specs sound.table evtchn c old there (subst IsTable puts_it table)))
+    where
+      same_domid : (s : ConnSpec) → (caller_of (with_evtchn evtchn s)).domid ≡ (caller_of s).domid
+      same_domid (Ring domid target old) = refl
+      same_domid (Socket fd) = refl
 
-  pub target_sound : (target c : ℕ) → target ≤ 32751 → (old spec : ConnSpec) (new : Specs) → find nat_cmp c peers.specs ≡ Some old → spec ≡ with_target target old → new ≡ put nat_cmp c spec peers.specs → IsTable new → IsSound (record { specs = new; queues = peers.queues; txns = peers.txns })
+  pub target_sound : (target c : ℕ) → target ≤ 32751 → (old spec : ConnSpec) (new : Specs) → find nat_cmp c peers.specs ≡ Some old → spec ≡ with_target target old → new ≡ put nat_cmp c spec peers.specs → IsTable new → IsSound (with_end new)
   target_sound target c domain old spec new there is puts table =
       let puts_it : new ≡ put nat_cmp c (with_target target old) peers.specs = puts ∙ ap (λ s. put nat_cmp c s peers.specs) is in
-      subst (λ n. IsSound (record { specs = n; queues = peers.queues; txns = peers.txns })) (sym puts_it)
-      (sound_changed c old (with_target target old) there (target_changed peers.specs sound.table target c domain old there (subst IsTable puts_it table)))
+      subst (λ n. IsSound (with_end n)) (sym puts_it)
+      (sound_changed c old (with_target target old) there (same_domid old) (target_changed peers.specs sound.table target c domain old there (subst IsTable puts_it table)))
+    where
+      same_domid : (s : ConnSpec) → (caller_of (with_target target s)).domid ≡ (caller_of s).domid
+      same_domid (Ring domid old evtchn) = refl
+      same_domid (Socket fd) = refl
+
+-- what is not taken is not there
+pub untaken : (c : ℕ) (spec : ConnSpec) (specs : Specs) → is_taken c spec specs ≡ false → find nat_cmp c specs ≡ None
+untaken c spec specs h = by (find nat_cmp c specs) h
+  where
+    by : (o : Option ConnSpec) → (is_some o || has_its_ring spec specs) ≡ false → o ≡ None
+    by None e = refl
+    by (Some s) e = cc
 
 -- what was set, where the connection was found
 pub set_there : (found : Bool) (c : ℕ) (old spec : ConnSpec) (specs new : Specs) → find nat_cmp c specs ≡ Some old → found ≡ is_some (find nat_cmp c specs) → new ≡ cond found (put nat_cmp c spec specs) specs → new ≡ put nat_cmp c spec specs
 set_there found c old spec specs new there is after = after ∙ ap (λ b. cond b (put nat_cmp c spec specs) specs) (is ∙ ap is_some there)
 
 -- after a pull, whether the connection was there or not
-pub sound_after_pull : (peers : Connected) → IsSound peers → (new : Connected) (c : ℕ) (into into_new : List ℕ) (r : Option ℕ) → new.specs ≡ peers.specs → new.txns ≡ peers.txns → PulledFrom peers.queues c into new.queues into_new r → IsSound new
-sound_after_pull peers sound new c into into_new None specs txns pulled = sound_same peers sound new specs txns (ap unsent_of pulled.1.0)
-sound_after_pull peers sound new c into into_new (Some n) specs txns pulled = sound_pulled peers sound new c into into_new n specs txns pulled
+pub sound_after_pull : (peers : Connected) → IsSound peers → (new : Connected) (c : ℕ) (into into_new : List ℕ) (r : Option ℕ) → new.specs ≡ peers.specs → new.watched ≡ peers.watched → new.txns ≡ peers.txns → PulledFrom peers.queues c into new.queues into_new r → IsSound new
+sound_after_pull peers sound new c into into_new None specs watched txns pulled = sound_same peers sound new specs watched txns (ap unsent_of pulled.1.0)
+sound_after_pull peers sound new c into into_new (Some n) specs watched txns pulled = sound_pulled peers sound new c into into_new n specs watched txns pulled

@@ -21,7 +21,7 @@ use Rattle.machine_model.specs.Transactions.{Transaction, started, outcome_on, r
 use Rattle.machine_model.specs.Machine.{Machine, Asked, Done, refused, replied, granted, with_conn, with_watches, with_transaction, without_transaction, with_spec, told, tell, changed_machine, ran_by, done_command, command_inside, run_command, transaction_limit, start, committed, finish, close, may_watch, add_watch, remove_watch, if_control, set_spec, introduce, release, set_target, act, act_or_refuse, step_of_conn, step_with}
 use Rattle.machine_model.specs.Limits.{HasIds}
 use Rattle.machine_model.proofs.LimitLemmas.{least_free-is}
-use Rattle.daemon.proofs.KeepsLemmas.{keys_map, same_put, put_again}
+use Rattle.conn_rows.proofs.IdEntries.{keys_map, same_put, put_again}
 
 pub data Shape (before after : Connections) : Type 0 where
   Stays : map (λ e. e.0) after ≡ map (λ e. e.0) before → Shape before after

@@ -1,5 +1,5 @@
 -- What a daemon keeps and sends, for each store that it stands for, by its tree and its connections.
-use Rattle.std.proofs.Common.{◌≡◌, ℕ, ◌<◌, ◌≤◌, ◌==◌, not, List, [], ◌∷◌, ◌++◌, length, take, drop, Option, Some, None, is_some, OnOk, Result, Ok, Err, refl, sym, ap, ◌∙◌, arith}
+use Rattle.std.proofs.Common.{◌≡◌, ℕ, ◌<◌, ◌≤◌, ◌==◌, Bool, true, false, not, List, [], ◌∷◌, ◌++◌, length, take, drop, Option, Some, None, is_some, OnOk, IsErrOf, ◌↔◌, Result, Ok, Err, refl, sym, ap, ◌∙◌, arith}
 use Rattle.std.specs.Option.{option_map}
 use Rattle.std.specs.Ordering.{nat_cmp}
 use Rattle.std.specs.FinMap.{find, put}
@@ -15,15 +15,23 @@ use Rattle.mark_model.proofs.MarkLaws.{laws}
 use Rattle.mark_model.proofs.StoreSteps.{steps_kept}
 use Rattle.out_queues.specs.Queues.{Queue}
 use Rattle.node_tree.specs.KeptTree.{KeptTree}
-use Rattle.conn_table.specs.Tables.{ring_id}
+use Rattle.conn_table.specs.declared.table.AddErr.{AddErr}
+use Rattle.conn_table.specs.declared.table.AddErr.TheVariants.{Taken}
+use Rattle.conn_table.specs.Tables.{Specs, ring_id, is_taken}
 use Rattle.daemon.specs.declared.answer.Pull.TheVariants.{Got, Nothing, Gone}
-use Rattle.daemon.specs.Keeps.{Kept, StandsFor, conns_of, machine_of, store_of}
-use Rattle.daemon.specs.Rows.{opens_in, opens_of}
-use Rattle.daemon.specs.Peers.{Connected, IsSound, PulledFrom, unsent_of}
+use Rattle.watch_table.specs.Tables.{Made, watches_in}
+use Rattle.watchers.specs.Watched.{watching, conns_of}
+use Rattle.daemon.specs.Keeps.{Kept, StandsFor, machine_of, store_of}
+use Rattle.conn_rows.specs.Rows.{opens_in, opens_of}
+use Rattle.conn_rows.specs.Queued.{PulledFrom, unsent_of}
+use Rattle.daemon.specs.Peers.{Connected, IsSound}
 use Rattle.daemon.specs.Acts.{kept_by}
 use Rattle.daemon.specs.Submits.{Pulled, Adds, Drops}
-use Rattle.daemon.proofs.KeepsLemmas.{put_map, where_map, same_there, none_there, conns_put, conns_without, conns_ring, put_again, same_rising}
-use Rattle.daemon.proofs.PeerLemmas.{unsent_found, ids_unsent}
+use Rattle.conn_rows.proofs.IdEntries.{put_map, where_map, same_there, none_there, put_again}
+use Rattle.daemon.proofs.KeepsLemmas.{conns_put, conns_without, conns_ring}
+use Rattle.daemon.proofs.OwnLemmas.{none_watched}
+use Rattle.conn_rows.proofs.UnsentBytes.{unsent_found}
+use Rattle.daemon.proofs.PeerLemmas.{untaken, ids_unsent, rising_unsent}
 use Rattle.daemon.proofs.DoorLemmas.{bare_ring}
 
 -- what follows from some facts on a success
@@ -31,14 +39,31 @@ pub with_all : {T E P Q R U S : Type 0} (r : Result T E) → OnOk r P → OnOk r
 with_all (Ok x) p q r u to = to p q r u
 with_all (Err e) p q r u to = tt
 
+pub both : {T E : Type 0} (P Q : Type 0) (r : Result T E) → OnOk r P → OnOk r Q → OnOk r (P × Q)
+both P Q (Ok x) p q = (p, q)
+both P Q (Err e) p q = tt
+
+-- what is added was not there
+pub not_there : (r : Result (Unit {0}) AddErr) (c : ℕ) (spec : ConnSpec) (specs : Specs) → (IsErrOf r Taken ↔ (is_taken c spec specs ≡ true)) → OnOk r (find nat_cmp c specs ≡ None)
+not_there (Ok x) c spec specs h = untaken c spec specs (by (is_taken c spec specs) refl)
+  where
+    by : (b : Bool) → is_taken c spec specs ≡ b → b ≡ false
+    by true e = let bad : Ok x ≡ Err Taken = h.1 e in cc
+    by false e = refl
+not_there (Err e) c spec specs h = tt
+
 -- A CONNECTION IS ADDED
-pub adds : (tree : KeptTree) (old new : Connected) (c : ℕ) (spec : ConnSpec) → 1 ≤ c → new.specs ≡ put nat_cmp c spec old.specs → unsent_of new.queues ≡ put nat_cmp c [] (unsent_of old.queues) → new.txns ≡ put nat_cmp c [] old.txns → IsSound new
+pub adds : (tree : KeptTree) (old new : Connected) (c : ℕ) (spec : ConnSpec) → 1 ≤ c → IsSound old → find nat_cmp c old.specs ≡ None → new.specs ≡ put nat_cmp c spec old.specs → new.watched ≡ old.watched → unsent_of new.queues ≡ put nat_cmp c [] (unsent_of old.queues) → new.txns ≡ put nat_cmp c [] old.txns → IsSound new
     → Adds (kept_by tree old) c spec (kept_by tree new)
-adds tree old new c spec positive specs bytes txns sound =
+adds tree old new c spec positive was absent specs watched bytes txns sound =
     let opens : opens_of new.txns ≡ put nat_cmp c [] (opens_of old.txns) = ap (λ rows. opens_of rows) txns ∙ put_map opens_in c [] old.txns in
+    let made : put nat_cmp c (fresh spec) (conns_of old.specs old.watched) ≡ conns_of (put nat_cmp c spec old.specs) old.watched =
+    ap (λ (ws : List Made). put nat_cmp c (watching spec (watches_in ws)) (conns_of old.specs old.watched)) (sym (none_watched old.specs old.watched was.watching c absent)) ∙ conns_put old.watched c spec old.specs
+    in
     record {
       unsent = bytes;
       specs = specs;
+      watched = watched;
       opens = opens;
       tree = (refl, refl);
       stands = λ m stands. record {
@@ -46,7 +71,7 @@ adds tree old new c spec positive specs bytes txns sound =
           machine = record {
             tree = (stands.same i).machine.tree;
             gens = (stands.same i).machine.gens;
-            conns = (put_map without_transactions c (fresh spec) m.conns ∙ (λ j. put nat_cmp c (fresh spec) (stands.same j).machine.conns) ∙ conns_put c spec old.specs ∙ ap conns_of (sym specs)) i;
+            conns = (put_map without_transactions c (fresh spec) m.conns ∙ (λ j. put nat_cmp c (fresh spec) (stands.same j).machine.conns) ∙ made ∙ (λ j. conns_of (sym specs j) (sym watched j))) i;
           };
           opens = (put_map opens_of_conn c (fresh spec) m.conns ∙ (λ j. put nat_cmp c [] (stands.same j).opens) ∙ sym opens) i;
         };
@@ -58,12 +83,12 @@ adds tree old new c spec positive specs bytes txns sound =
     }
 
 -- IT IS LOST
-pub drops : (tree : KeptTree) (old new : Connected) (c : ℕ) → new.specs ≡ where_key nat_cmp (λ key. not (c == key)) old.specs → new.queues ≡ where_key nat_cmp (λ key. not (c == key)) old.queues → new.txns ≡ where_key nat_cmp (λ key. not (c == key)) old.txns → IsSound new
+pub drops : (tree : KeptTree) (old new : Connected) (c : ℕ) → IsSound old → new.specs ≡ where_key nat_cmp (λ key. not (c == key)) old.specs → new.queues ≡ where_key nat_cmp (λ key. not (c == key)) old.queues → new.txns ≡ where_key nat_cmp (λ key. not (c == key)) old.txns → new.watched ≡ where_key nat_cmp (λ key. not (c == key)) old.watched → IsSound new
     → Drops (kept_by tree old) c (kept_by tree new)
-drops tree old new c specs queues txns sound =
+drops tree old new c was specs queues txns watched sound =
     let store : store_of (kept_by tree new) ≡ (kept_step [] (store_of (kept_by tree old)) (Lost c)).0 =
     λ i. record {
-      machine = record { tree = tree.nodes; gens = tree.gens; conns = (ap conns_of specs ∙ sym (conns_without c old.specs)) i };
+      machine = record { tree = tree.nodes; gens = tree.gens; conns = ((λ j. conns_of (specs j) (watched j)) ∙ sym (conns_without (λ key. not (c == key)) old.specs old.watched was.table.table.rising)) i };
       opens = (ap (λ rows. opens_of rows) txns ∙ where_map opens_in (λ key. not (c == key)) old.txns) i;
     }
     in
@@ -81,7 +106,7 @@ drops tree old new c specs queues txns sound =
 
 -- A RING is found as the store finds it
 pub ring_stands : (kept : Kept) (d : ℕ) (m : Machine) → StandsFor kept m → ring_id d kept.specs ≡ ring_of d m.conns
-ring_stands kept d m stands = sym (conns_ring d kept.specs) ∙ ap (λ (k : KeptStore). ring_of d k.machine.conns) (sym stands.same) ∙ bare_ring d m.conns
+ring_stands kept d m stands = sym (conns_ring kept.watched d kept.specs) ∙ ap (λ (k : KeptStore). ring_of d k.machine.conns) (sym stands.same) ∙ bare_ring d m.conns
 
 -- HOW MANY BYTES are unsent to a connection
 counted : (o : Option Queue) → option_map (λ (q : Queue). length q.bytes) o ≡ option_map length (option_map (λ (q : Queue). q.bytes) o)
@@ -98,38 +123,38 @@ same_unsent peers sound c = same_there (unsent_of peers.queues) peers.specs (ids
 pub positive : (n : ℕ) → (n ≡ 0 → ⊥) → 0 < n
 positive n h = omega arith
 
-pub same_kept : (tree : KeptTree) (old new : Connected) → new.specs ≡ old.specs → new.txns ≡ old.txns → unsent_of new.queues ≡ unsent_of old.queues → kept_by tree new ≡ kept_by tree old
-same_kept tree old new specs txns bytes = λ i. record { tree = tree.nodes; gens = tree.gens; specs = specs i; opens = opens_of (txns i); unsent = bytes i }
+pub same_kept : (tree : KeptTree) (old new : Connected) → new.specs ≡ old.specs → new.watched ≡ old.watched → new.txns ≡ old.txns → unsent_of new.queues ≡ unsent_of old.queues → kept_by tree new ≡ kept_by tree old
+same_kept tree old new specs watched txns bytes = λ i. record { tree = tree.nodes; gens = tree.gens; specs = specs i; watched = watched i; opens = opens_of (txns i); unsent = bytes i }
 
-pub same_store : (tree : KeptTree) (old new : Connected) → new.specs ≡ old.specs → new.txns ≡ old.txns → store_of (kept_by tree new) ≡ store_of (kept_by tree old)
-same_store tree old new specs txns = λ i. record { machine = machine_of tree.nodes tree.gens (specs i); opens = opens_of (txns i) }
+pub same_store : (tree : KeptTree) (old new : Connected) → new.specs ≡ old.specs → new.watched ≡ old.watched → new.txns ≡ old.txns → store_of (kept_by tree new) ≡ store_of (kept_by tree old)
+same_store tree old new specs watched txns = λ i. record { machine = machine_of tree.nodes tree.gens (specs i) (watched i); opens = opens_of (txns i) }
 
-pub pulled_none : (tree : KeptTree) (old new : Connected) (c : ℕ) (into into_new : List ℕ) → new.specs ≡ old.specs → new.txns ≡ old.txns → PulledFrom old.queues c into new.queues into_new None → Pulled (kept_by tree old) c into (kept_by tree new) into_new Gone
-pulled_none tree old new c into into_new specs txns pulled =
-    (unsent_found c old.queues ∙ ap (option_map (λ (q : Queue). q.bytes)) pulled.0, (same_kept tree old new specs txns (ap unsent_of pulled.1.0), pulled.1.1))
+pub pulled_none : (tree : KeptTree) (old new : Connected) (c : ℕ) (into into_new : List ℕ) → new.specs ≡ old.specs → new.watched ≡ old.watched → new.txns ≡ old.txns → PulledFrom old.queues c into new.queues into_new None → Pulled (kept_by tree old) c into (kept_by tree new) into_new Gone
+pulled_none tree old new c into into_new specs watched txns pulled =
+    (unsent_found c old.queues ∙ ap (option_map (λ (q : Queue). q.bytes)) pulled.0, (same_kept tree old new specs watched txns (ap unsent_of pulled.1.0), pulled.1.1))
 
 nothing_there : (bytes : List ℕ) → length bytes ≡ 0 → bytes ≡ []
 nothing_there [] h = refl
 nothing_there (b ∷ bs) h = absurd (omega arith)
 
-pub pulled_nothing : (tree : KeptTree) (old new : Connected) (c : ℕ) (into into_new : List ℕ) (n : ℕ) → IsSound old → 0 < length into → n ≡ 0 → new.specs ≡ old.specs → new.txns ≡ old.txns → PulledFrom old.queues c into new.queues into_new (Some n)
+pub pulled_nothing : (tree : KeptTree) (old new : Connected) (c : ℕ) (into into_new : List ℕ) (n : ℕ) → IsSound old → 0 < length into → n ≡ 0 → new.specs ≡ old.specs → new.watched ≡ old.watched → new.txns ≡ old.txns → PulledFrom old.queues c into new.queues into_new (Some n)
     → Pulled (kept_by tree old) c into (kept_by tree new) into_new Nothing
-pulled_nothing tree old new c into into_new n sound room none specs txns moved =
+pulled_nothing tree old new c into into_new n sound room none specs watched txns moved =
     let unsent = unsent_of old.queues in
     let short : length moved.bytes ≡ 0 = omega (arith, moved.count) in
     let empty = nothing_there moved.bytes short in
     let there : find nat_cmp c unsent ≡ Some [] = moved.there ∙ ap (λ b. Some b) empty in
-    let rising = same_rising unsent old.specs (ids_unsent old sound) ∙ sound.table.table.rising in (
+    let rising = rising_unsent old sound in (
       there,
       (
-        same_kept tree old new specs txns (moved.unsent ∙ ap (λ b. put nat_cmp c b unsent) (ap (λ k. drop k moved.bytes) none ∙ empty) ∙ put_again c [] unsent rising there),
+        same_kept tree old new specs watched txns (moved.unsent ∙ ap (λ b. put nat_cmp c b unsent) (ap (λ k. drop k moved.bytes) none ∙ empty) ∙ put_again c [] unsent rising there),
         moved.taken ∙ ap (λ k. take k moved.bytes ++ drop k into) none,
       ),
     )
 
-pub pulled_some : (tree : KeptTree) (old new : Connected) (c : ℕ) (into into_new : List ℕ) (n : ℕ) → IsSound new → 0 < n → new.specs ≡ old.specs → new.txns ≡ old.txns → PulledFrom old.queues c into new.queues into_new (Some n)
+pub pulled_some : (tree : KeptTree) (old new : Connected) (c : ℕ) (into into_new : List ℕ) (n : ℕ) → IsSound new → 0 < n → new.specs ≡ old.specs → new.watched ≡ old.watched → new.txns ≡ old.txns → PulledFrom old.queues c into new.queues into_new (Some n)
     → Pulled (kept_by tree old) c into (kept_by tree new) into_new (Got n)
-pulled_some tree old new c into into_new n sound some specs txns moved = record {
+pulled_some tree old new c into into_new n sound some specs watched txns moved = record {
   bytes = moved.bytes;
   there = moved.there;
   some = omega (arith, moved.count);
@@ -137,7 +162,7 @@ pulled_some tree old new c into into_new n sound some specs txns moved = record 
   taken = moved.taken;
   unsent = moved.unsent;
   stands = λ m stands. record {
-    same = stands.same ∙ sym (same_store tree old new specs txns);
+    same = stands.same ∙ sym (same_store tree old new specs watched txns);
     followed = stands.followed;
     conn_ids = stands.conn_ids;
     table = sound.table.table;

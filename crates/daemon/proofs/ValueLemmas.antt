@@ -7,7 +7,7 @@ use Rattle.std.specs.FinMap.Entries.{where_key, below_all}
 use Rattle.std.proofs.lemmas.Bool.{and_parts}
 use Rattle.std.proofs.lemmas.Bool.Decides.{nat_tests}
 use Rattle.xs_model.proofs.Maps.{sorted_put}
-use Rattle.daemon.proofs.KeepsLemmas.{same_put, same_there, same_rising, none_there, found_at}
+use Rattle.conn_rows.proofs.IdEntries.{same_put, same_there, same_rising, none_there, found_at}
 
 -- BY THEIR IDS: a value for each entry
 abbrev pub by_id : {X V : Type 0} → (ℕ → V) → List (ℕ × X) → List (ℕ × V)

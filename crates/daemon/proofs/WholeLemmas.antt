@@ -6,20 +6,22 @@ use Rattle.std.specs.FinMap.{put}
 use Rattle.std.specs.FinMap.Entries.{where_key}
 use Rattle.xs_model.specs.Trees.{Tree, IsTree}
 use Rattle.xs_model.specs.Generations.{greatest}
-use Rattle.xs_model.proofs.Maps.{sorted_map, keys_map as keys_mapped, all_put, all_where}
+use Rattle.xs_model.proofs.Maps.{all_put, all_where}
 use Rattle.machine_model.specs.declared.bounds.TheConstants.{CROWD_LIMIT}
-use Rattle.machine_model.specs.Connections.{fresh}
 use Rattle.machine_model.specs.Limits.{HasIds}
 use Rattle.mark_model.specs.Stores.{Opens, IsKeptTransaction, IsKeptStore}
 use Rattle.conn_table.specs.Tables.{Specs}
 use Rattle.node_tree.specs.KeptTree.{KeptTree}
 use Rattle.out_queues.specs.Queues.{Queue}
-use Rattle.daemon.specs.Keeps.{Kept, conns_of, store_of}
-use Rattle.daemon.specs.Rows.{opens_in, opens_of}
-use Rattle.daemon.specs.Peers.{Connected, IsSound, IsSoundTable, unsent_of}
+use Rattle.watchers.specs.Watched.{Watched, conns_of}
+use Rattle.daemon.specs.Keeps.{Kept, store_of}
+use Rattle.conn_rows.specs.Rows.{opens_in, opens_of}
+use Rattle.conn_rows.specs.Queued.{unsent_of}
+use Rattle.daemon.specs.Peers.{Connected, IsSound, IsSoundTable}
 use Rattle.daemon.specs.Acts.{kept_by, IsWhole, IsAsBefore}
-use Rattle.daemon.proofs.KeepsLemmas.{put_map, where_map, keys_map}
-use Rattle.daemon.proofs.PeerLemmas.{unsent_keys, short_unsent, ids_unsent}
+use Rattle.conn_rows.proofs.IdEntries.{put_map, where_map}
+use Rattle.daemon.proofs.KeepsLemmas.{conns_keys, conns_rising}
+use Rattle.daemon.proofs.PeerLemmas.{Belong, belong_same, belongs, positive_ids, unsent_keys, short_unsent, ids_unsent}
 use Rattle.daemon.proofs.UnsentLemmas.{opens_keys, ids_open}
 
 -- SOUND by what is kept
@@ -27,10 +29,12 @@ short_again : (queues : List (ℕ × Queue)) → AllByRecursion (λ e. length e.
 short_again [] h = tt
 short_again (e ∷ es) h = (h.0, short_again es h.1)
 
-pub sound_kept : (peers : Connected) → IsSoundTable peers.specs → map (λ e. e.0) (unsent_of peers.queues) ≡ map (λ e. e.0) peers.specs → map (λ e. e.0) (opens_of peers.txns) ≡ map (λ e. e.0) peers.specs
+pub sound_kept : (peers : Connected) → IsSoundTable peers.specs → Belong peers.specs peers.watched → map (λ e. e.0) (unsent_of peers.queues) ≡ map (λ e. e.0) peers.specs → map (λ e. e.0) (opens_of peers.txns) ≡ map (λ e. e.0) peers.specs
     → AllByRecursion (λ e. length e.1 ≤ CROWD_LIMIT) (unsent_of peers.queues) → IsSound peers
-sound_kept peers table ids rows short = record {
+sound_kept peers table belong ids rows short = record {
   table = table;
+  own = belong.0;
+  watching = belong.1;
   ids = sym (unsent_keys peers.queues) ∙ ids;
   rows = sym (opens_keys peers.txns) ∙ rows;
   short = short_again peers.queues short;
@@ -40,19 +44,19 @@ sound_kept peers table ids rows short = record {
 abbrev AreKept : Tree → Opens → Type 0
 AreKept tree opens = AllByRecursion (λ f. IsKeptTransaction tree f.1) opens
 
-conns_ids : (specs : Specs) → IsSoundTable specs → HasIds (conns_of specs)
-conns_ids specs sound = record { rising = sorted_map nat_cmp fresh specs ∙ sound.table.rising; positive = keys_mapped (λ i. 1 ≤ i) fresh specs sound.ids }
+conns_ids : (specs : Specs) (watched : Watched) → IsSoundTable specs → HasIds (conns_of specs watched)
+conns_ids specs watched sound = record { rising = conns_rising watched specs sound.table.rising; positive = positive_ids (conns_of specs watched) specs (conns_keys watched specs) sound.ids }
 
-none_open : (specs : Specs) → AllByRecursion (λ e. e.1.transactions ≡ []) (conns_of specs)
-none_open [] = tt
-none_open (e ∷ es) = (refl, none_open es)
+none_open : (specs : Specs) (watched : Watched) → AllByRecursion (λ e. e.1.transactions ≡ []) (conns_of specs watched)
+none_open [] watched = tt
+none_open (e ∷ es) watched = (refl, none_open es watched)
 
 store_kept : (tree : KeptTree) (peers : Connected) → IsSound peers → IsTree tree.nodes → (opens : List (ℕ × Opens)) → opens_of peers.txns ≡ opens → AllByRecursion (λ e. AreKept tree.nodes e.1) opens → IsKeptStore (store_of (kept_by tree peers))
 store_kept tree peers sound is_tree opens same each = record {
   tree = is_tree;
-  ids = conns_ids peers.specs sound.table;
-  none_open = none_open peers.specs;
-  keys = ids_open peers sound ∙ sym (keys_map fresh peers.specs);
+  ids = conns_ids peers.specs peers.watched sound.table;
+  none_open = none_open peers.specs peers.watched;
+  keys = ids_open peers sound ∙ sym (conns_keys peers.watched peers.specs);
   each = subst (AllByRecursion (λ e. AreKept tree.nodes e.1)) (sym same) each;
 }
 
@@ -88,6 +92,7 @@ whole_as_before tree old whole tree_new new as_before =
     let keys : map (λ e. e.0) old.specs ≡ map (λ e. e.0) new.specs = ap (map (λ e. e.0)) (sym specs) in
     record {
       sound = sound_kept new (subst IsSoundTable (sym specs) whole.sound.table)
+          (belong_same old.specs new.specs old.watched new.watched specs (ap (λ (k : Kept). k.watched) same) (belongs old whole.sound))
           (ap (λ (k : Kept). map (λ e. e.0) k.unsent) same ∙ ids_unsent old whole.sound ∙ keys)
           (ap (λ (k : Kept). map (λ e. e.0) k.opens) same ∙ ids_open old whole.sound ∙ keys)
           (subst (λ (k : Kept). AllByRecursion (λ e. length e.1 ≤ CROWD_LIMIT) k.unsent) (sym same) (short_unsent old.queues whole.sound.short));

@@ -1,5 +1,5 @@
 -- What one request does to the tree and to the connections of a daemon. This project's own.
-use Rattle.std.specs.Prelude.{◌≡◌, ℕ, ◌==◌, not, true, List, [], map, length, ◌≤◌, Some, None}
+use Rattle.std.specs.Prelude.{◌≡◌, ℕ, ◌+◌, ◌==◌, not, true, List, [], map, length, ◌≤◌, Some, None, Result, Ok, Err, IfOk}
 use Rattle.std.specs.Ordering.{nat_cmp}
 use Rattle.std.specs.FinMap.{find, put}
 use Rattle.std.specs.FinMap.Entries.{where_key}
@@ -7,18 +7,24 @@ use Rattle.machine_model.specs.declared.ConnSpec.TheVariants.{Ring}
 use Rattle.machine_model.specs.Connections.{Connections, fresh, ring_of}
 use Rattle.machine_model.specs.Machine.{Done}
 use Rattle.mark_model.specs.Stores.{KeptDone, IsKeptStore, opens_by}
-use Rattle.machine_model.specs.History.{Unsent, unsent_to}
+use Rattle.machine_model.specs.History.{Unsent, unsent_to, sent_to}
+use Rattle.xs_model.specs.declared.message.WireErr.{WireErr}
 use Rattle.xs_model.specs.Generations.{Generations, greatest}
+use Rattle.xs_model.specs.Messages.{string, error_name}
 use Rattle.xs_model.specs.Trees.{Tree}
 use Rattle.conn_table.specs.Tables.{Specs}
 use Rattle.xs_model.specs.Wholes.{whole_behind}
 use Rattle.daemon.specs.declared.answer.Door.{Door}
 use Rattle.daemon.specs.declared.answer.Door.TheVariants.{Same, Opened, Closed}
 use Rattle.daemon.specs.declared.reply.Answer.{Answer}
+use Rattle.daemon.specs.declared.reply.Answered.{Answered}
+use Rattle.daemon.specs.declared.reply.Answered.TheVariants as answered
 use Rattle.node_tree.specs.KeptTree.{KeptTree}
-use Rattle.daemon.specs.Keeps.{Kept, conns_of, machine_of, store_of}
-use Rattle.daemon.specs.Rows.{opens_of}
-use Rattle.daemon.specs.Peers.{Connected, IsSound, unsent_of}
+use Rattle.daemon.specs.Keeps.{Kept, machine_of, store_of}
+use Rattle.conn_rows.specs.Rows.{opens_of}
+use Rattle.conn_rows.specs.Queued.{unsent_of}
+use Rattle.conn_rows.specs.Sending.{HasRoomFor, crowding}
+use Rattle.daemon.specs.Peers.{Connected, IsSound, conns_in, message_limit}
 
 -- what a daemon keeps, by its tree and its connections
 abbrev pub kept_by : KeptTree → Connected → Kept
@@ -26,6 +32,7 @@ kept_by tree peers = record {
   tree = tree.nodes;
   gens = tree.gens;
   specs = peers.specs;
+  watched = peers.watched;
   opens = opens_of peers.txns;
   unsent = unsent_of peers.queues;
 }
@@ -60,28 +67,22 @@ IsDoor before after (Closed d) = Closes d before after
 abbrev pub unsent_by : Specs → Unsent → Unsent
 unsent_by specs unsent = map (λ e. (e.0, unsent_to e.0 unsent)) specs
 
--- WHAT A REQUEST of the connection c did: what the definition says, and what is unsent to the connections that stay is
--- as it was
+-- the number of bytes of a reply's message
+abbrev pub reply_length : Result (List ℕ) WireErr → ℕ
+reply_length (Ok payload) = 16 + length payload
+reply_length (Err error) = 16 + length (string (error_name error))
+
+-- WHAT A REQUEST of the connection c did: what the definition says; what is unsent to the connections that stay is as it
+-- was, and there is memory for a reply and for what is owed, by which nobody has too many bytes unsent
 pub record Did (c : ℕ) (tree : KeptTree) (peers : Connected) (done : KeptDone) (answer : Answer) (tree_new : KeptTree) (peers_new : Connected) : Type 0 where
   pub reply : answer.reply ≡ done.reply
   pub store : done.store ≡ store_of (kept_by tree_new peers_new)
-  pub sends : done.sends ≡ []
+  pub sends : (d : ℕ) → sent_to d done.sends ≡ unsent_to d answer.owed
   pub counter : tree_new.counter ≡ greatest tree_new.gens
-  pub door : IsDoor (conns_of peers.specs) (conns_of peers_new.specs) answer.door
+  pub door : IsDoor (conns_in peers) (conns_in peers_new) answer.door
   pub unsent : unsent_of peers_new.queues ≡ unsent_by peers_new.specs (unsent_of peers.queues)
-  -- with the memory that was taken for the reply
-  pub asker : find nat_cmp c peers_new.queues ≡ find nat_cmp c peers.queues
-  pub sound : IsSound peers_new
-
--- what a request on domains did, in the store without transactions; those of the connections that stay stay open
-pub record DidBeside (c : ℕ) (peers : Connected) (done : Done) (tree : Tree) (gens : Generations) (answer : Answer) (peers_new : Connected) : Type 0 where
-  pub reply : answer.reply ≡ done.reply
-  pub machine : done.machine ≡ machine_of tree gens peers_new.specs
-  pub sends : done.sends ≡ []
-  pub opens : opens_of peers_new.txns ≡ opens_by (conns_of peers_new.specs) (opens_of peers.txns)
-  pub door : IsDoor (conns_of peers.specs) (conns_of peers_new.specs) answer.door
-  pub unsent : unsent_of peers_new.queues ≡ unsent_by peers_new.specs (unsent_of peers.queues)
-  pub asker : find nat_cmp c peers_new.queues ≡ find nat_cmp c peers.queues
+  pub room : HasRoomFor c message_limit answer.owed peers_new.queues
+  pub uncrowded : crowding c (reply_length answer.reply) answer.owed (unsent_of peers_new.queues) ≡ None
   pub sound : IsSound peers_new
 
 -- nothing has changed but memory
@@ -89,9 +90,50 @@ abbrev pub IsAsBefore : KeptTree → Connected → KeptTree → Connected → Ty
 IsAsBefore tree peers tree_new peers_new =
     (kept_by tree_new peers_new ≡ kept_by tree peers) × (tree_new.counter ≡ tree.counter)
 
--- so many bytes has a message at the most: its header has 16, and its payload 4096
-abbrev pub message_limit : ℕ
-message_limit = 4112
+-- the same of connections
+pub record IsSameKept (peers peers_new : Connected) : Type 0 where
+  pub specs : peers_new.specs ≡ peers.specs
+  pub watched : peers_new.watched ≡ peers.watched
+  pub opens : opens_of peers_new.txns ≡ opens_of peers.txns
+  pub unsent : unsent_of peers_new.queues ≡ unsent_of peers.queues
+
+-- or it was not done, since a connection would have too many bytes unsent
+pub record IsCrowding (c : ℕ) (tree : KeptTree) (peers : Connected) (done : KeptDone) (d : ℕ) (tree_new : KeptTree) (peers_new : Connected) : Type 0 where
+  pub owed : Unsent
+  pub sends : (e : ℕ) → sent_to e done.sends ≡ unsent_to e owed
+  pub crowds : crowding c (reply_length done.reply) owed (map (λ e. (e.0, unsent_to e.0 (unsent_of peers.queues))) done.store.machine.conns) ≡ Some d
+  pub unchanged : IsAsBefore tree peers tree_new peers_new
+
+abbrev pub IsAnswered : ℕ → KeptTree → Connected → KeptDone → Answered → KeptTree → Connected → Type 0
+IsAnswered c tree peers done (answered.Done answer) tree_new peers_new = Did c tree peers done answer tree_new peers_new
+IsAnswered c tree peers done (answered.Crowded d) tree_new peers_new = IsCrowding c tree peers done d tree_new peers_new
+
+-- a reply that fits in a message
+abbrev pub IsShort : Answered → Type 0
+IsShort (answered.Done answer) = IfOk answer.reply (λ payload. length payload ≤ 4096)
+IsShort (answered.Crowded d) = Unit {0}
+
+-- what a request on domains did, in the store without transactions; those of the connections that stay stay open
+pub record DidBeside (c : ℕ) (peers : Connected) (done : Done) (tree : Tree) (gens : Generations) (answer : Answer) (peers_new : Connected) : Type 0 where
+  pub reply : answer.reply ≡ done.reply
+  pub machine : done.machine ≡ machine_of tree gens peers_new.specs peers_new.watched
+  pub sends : (d : ℕ) → sent_to d done.sends ≡ unsent_to d answer.owed
+  pub opens : opens_of peers_new.txns ≡ opens_by (conns_in peers_new) (opens_of peers.txns)
+  pub door : IsDoor (conns_in peers) (conns_in peers_new) answer.door
+  pub unsent : unsent_of peers_new.queues ≡ unsent_by peers_new.specs (unsent_of peers.queues)
+  pub room : HasRoomFor c message_limit answer.owed peers_new.queues
+  pub uncrowded : crowding c (reply_length answer.reply) answer.owed (unsent_of peers_new.queues) ≡ None
+  pub sound : IsSound peers_new
+
+pub record IsCrowdingBeside (c : ℕ) (peers : Connected) (done : Done) (d : ℕ) (peers_new : Connected) : Type 0 where
+  pub owed : Unsent
+  pub sends : (e : ℕ) → sent_to e done.sends ≡ unsent_to e owed
+  pub crowds : crowding c (reply_length done.reply) owed (map (λ e. (e.0, unsent_to e.0 (unsent_of peers.queues))) done.machine.conns) ≡ Some d
+  pub unchanged : IsSameKept peers peers_new
+
+abbrev pub IsAnsweredBeside : ℕ → Connected → Done → Tree → Generations → Answered → Connected → Type 0
+IsAnsweredBeside c peers done tree gens (answered.Done answer) peers_new = DidBeside c peers done tree gens answer peers_new
+IsAnsweredBeside c peers done tree gens (answered.Crowded d) peers_new = IsCrowdingBeside c peers done d peers_new
 
 -- the bytes of a reply may be sent: they are whole messages, and so few
 pub record IsReply (bytes : List ℕ) : Type 0 where

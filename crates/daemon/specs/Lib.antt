@@ -1,9 +1,7 @@
-pub mod Built
 pub mod Keeps
 pub mod Peers
-pub mod Rows
 pub mod Acts
+pub mod Asks
 pub mod Changes
 pub mod Commands
-pub mod Served
 pub mod Submits

@@ -1,27 +1,31 @@
--- The connections, with what is unsent to each and its open transactions. This project's own.
-use Rattle.std.specs.Prelude.{◌≡◌, ℕ, ◌≤◌, ◌++◌, List, map, min, take, drop, length, Option, Some, None, IfSome, ⊤}
+-- The connections, with their watches, what is unsent to each and its open transactions. This project's own.
+use Rattle.std.specs.Prelude.{◌≡◌, ℕ, ◌<◌, ◌≤◌, List, map, length, true, Some, is_some, IfSome, ⊤}
 use Rattle.std.specs.List.{AllByRecursion}
 use Rattle.std.specs.Ordering.{nat_cmp}
-use Rattle.std.specs.FinMap.{find, put}
-use Rattle.machine_model.specs.declared.bounds.TheConstants.{CROWD_LIMIT}
+use Rattle.std.specs.FinMap.{find}
+use Rattle.machine_model.specs.declared.bounds.TheConstants.{HELD_LIMIT, CROWD_LIMIT}
 use Rattle.machine_model.specs.declared.ConnSpec.{ConnSpec}
 use Rattle.machine_model.specs.declared.ConnSpec.TheVariants.{Ring, Socket}
+use Rattle.machine_model.specs.Connections.{Connection, Connections}
 use Rattle.out_queues.specs.Queues.{Queue}
 use Rattle.conn_table.specs.Tables.{Specs, IsTable, count_sockets}
-use Rattle.daemon.specs.Rows.{Txns}
+use Rattle.watchers.specs.Watched.{Watched, AreOwn, watches_of, watching, conns_of}
+use Rattle.conn_rows.specs.Rows.{Txns}
+use Rattle.conn_rows.specs.Queued.{HasRoom}
 
 pub record Connected : Type 0 where
   pub specs : Specs
+  pub watched : Watched
   pub queues : List (ℕ × Queue)
   pub txns : List (ℕ × Txns)
 
--- the bytes that wait in queues
-abbrev pub unsent_of : List (ℕ × Queue) → List (ℕ × List ℕ)
-unsent_of queues = map (λ e. (e.0, e.1.bytes)) queues
+-- the store's connections, without their transactions
+abbrev pub conns_in : Connected → Connections
+conns_in peers = conns_of peers.specs peers.watched
 
--- the queue of a connection has memory for so many bytes
-abbrev pub HasRoom : ℕ → ℕ → List (ℕ × Queue) → Type 0
-HasRoom c n queues = (queue : Queue) → find nat_cmp c queues ≡ Some queue → n ≤ queue.spare
+-- the connection of this id and this other end
+abbrev pub conn_in : Connected → ℕ → ConnSpec → Connection
+conn_in peers c spec = watching spec (watches_of c peers.watched)
 
 -- the domains that a connection names are domids
 abbrev pub IsInBounds : ConnSpec → Type 0
@@ -35,21 +39,21 @@ pub record IsSoundTable (specs : Specs) : Type 0 where
   pub bounds : AllByRecursion (λ e. IsInBounds e.1) specs
   pub sockets : count_sockets specs ≤ 65536
 
--- what every daemon keeps of its connections: a row for each and no other, no queue of which is too long
+-- what every daemon keeps of its connections: a row for each and no other, no queue of which is too long, and watches of
+-- no other
 pub record IsSound (peers : Connected) : Type 0 where
   pub table : IsSoundTable peers.specs
+  pub own : AreOwn peers.specs peers.watched
+  pub watching : AllByRecursion (λ e. is_some (find nat_cmp e.0 peers.specs) ≡ true) peers.watched
   pub ids : map (λ e. e.0) peers.queues ≡ map (λ e. e.0) peers.specs
   pub rows : map (λ e. e.0) peers.txns ≡ map (λ e. e.0) peers.specs
   pub short : AllByRecursion (λ e. length e.1.bytes ≤ CROWD_LIMIT) peers.queues
 
--- the first bytes of a queue were moved into a place, as many as there are and as find room
-pub record Moves (old : List (ℕ × Queue)) (c : ℕ) (into : List ℕ) (new : List (ℕ × Queue)) (into_new : List ℕ) (n : ℕ) : Type 0 where
-  pub bytes : List ℕ
-  pub there : find nat_cmp c (unsent_of old) ≡ Some bytes
-  pub count : n ≡ min (length into) (length bytes)
-  pub taken : into_new ≡ take n bytes ++ drop n into
-  pub unsent : unsent_of new ≡ put nat_cmp c (drop n bytes) (unsent_of old)
+-- so many bytes has a message at the most: its header has 16, and its payload 4096
+abbrev pub message_limit : ℕ
+message_limit = 4112
 
-abbrev pub PulledFrom : List (ℕ × Queue) → ℕ → List ℕ → List (ℕ × Queue) → List ℕ → Option ℕ → Type 0
-PulledFrom old c into new into_new (Some n) = Moves old c into new into_new n
-PulledFrom old c into new into_new None = (find nat_cmp c old ≡ None) × ((new ≡ old) × (into_new ≡ into))
+-- A CONNECTION MAY ASK: few bytes are unsent to it, and there is memory for a reply
+pub record MayAsk (c : ℕ) (peers : Connected) : Type 0 where
+  pub few : (queue : Queue) → find nat_cmp c peers.queues ≡ Some queue → length queue.bytes < HELD_LIMIT
+  pub room : HasRoom c message_limit peers.queues

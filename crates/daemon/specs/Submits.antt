@@ -4,11 +4,11 @@ use Rattle.std.specs.Prelude.{◌≡◌, ℕ, ◌<◌, ◌≤◌, ◌==◌, not,
 use Rattle.std.specs.Ordering.{nat_cmp}
 use Rattle.std.specs.FinMap.{find, put}
 use Rattle.std.specs.FinMap.Entries.{where_key}
+use Rattle.xs_model.specs.Requests.{all_types}
 use Rattle.machine_model.specs.declared.bounds.TheConstants.{HELD_LIMIT}
 use Rattle.machine_model.specs.declared.ConnSpec.{ConnSpec}
 use Rattle.machine_model.specs.Connections.{fresh}
-use Rattle.machine_model.specs.Machine.{Machine, Asked, Lost, Step, step_with, with_conn}
-use Rattle.daemon.specs.Built.{built_types, built_step}
+use Rattle.machine_model.specs.Machine.{Machine, Asked, Lost, Step, step, step_with, with_conn}
 use Rattle.mark_model.specs.Stores.{KeptStore, kept_step}
 use Rattle.machine_model.specs.History.{unsent_after, crowded}
 use Rattle.daemon.specs.declared.answer.Door.{Door}
@@ -16,27 +16,28 @@ use Rattle.daemon.specs.declared.answer.Submit.{Submit}
 use Rattle.daemon.specs.declared.answer.Submit.TheVariants as submit
 use Rattle.daemon.specs.declared.answer.Pull.{Pull}
 use Rattle.daemon.specs.declared.answer.Pull.TheVariants as pull
-use Rattle.daemon.specs.Keeps.{Kept, conns_of, store_of, StandsFor}
+use Rattle.watchers.specs.Watched.{conns_of}
+use Rattle.daemon.specs.Keeps.{Kept, store_of, StandsFor}
 use Rattle.daemon.specs.Acts.{IsDoor}
 
 -- ONE STEP of the store that is kept, as the store without transactions after it, and what is sent
 abbrev pub kept_after : Kept → ℕ → List ℕ → KeptStore
-kept_after old c message = (kept_step built_types (store_of old) (Asked c message)).0
+kept_after old c message = (kept_step all_types (store_of old) (Asked c message)).0
 
 abbrev pub stepped : Kept → ℕ → List ℕ → Step
-stepped old c message = ((kept_after old c message).machine, (kept_step built_types (store_of old) (Asked c message)).1)
+stepped old c message = ((kept_after old c message).machine, (kept_step all_types (store_of old) (Asked c message)).1)
 
 -- A request that is done is this step: what is kept after it is a function of what was kept, and of the request
 pub record Steps (old : Kept) (c : ℕ) (message : List ℕ) (told : Door) (new : Kept) : Type 0 where
   pub store : store_of new ≡ kept_after old c message
   pub unsent : new.unsent ≡ unsent_after (stepped old c message) old.unsent
   pub uncrowded : crowded (unsent_after (stepped old c message) old.unsent) ≡ None
-  pub door : IsDoor (conns_of old.specs) (conns_of new.specs) told
+  pub door : IsDoor (conns_of old.specs old.watched) (conns_of new.specs new.watched) told
 
 abbrev pub StepsIfDone : Kept → ℕ → List ℕ → Kept → Submit → Type 0
 StepsIfDone old c message new (submit.Done door) = Steps old c message door new
 StepsIfDone old c message new (submit.Held n) = new ≡ old
-StepsIfDone old c message new (submit.Crowded d) = new ≡ old
+StepsIfDone old c message new (submit.Crowded d) = (crowded (unsent_after (stepped old c message) old.unsent) ≡ Some d) × (new ≡ old)
 StepsIfDone old c message new submit.Gone = new ≡ old
 
 -- FOR EACH STORE that the daemon stands for: a request is taken where its connection has few unsent bytes and nobody
@@ -45,10 +46,10 @@ pub record Takes (old : Kept) (m : Machine) (c : ℕ) (message : List ℕ) (told
   pub bytes : List ℕ
   pub there : find nat_cmp c old.unsent ≡ Some bytes
   pub few : length bytes < HELD_LIMIT
-  pub uncrowded : crowded (unsent_after (built_step m (Asked c message)) old.unsent) ≡ None
-  pub stands : StandsFor new (built_step m (Asked c message)).0
-  pub unsent : new.unsent ≡ unsent_after (built_step m (Asked c message)) old.unsent
-  pub door : IsDoor m.conns (built_step m (Asked c message)).0.conns told
+  pub uncrowded : crowded (unsent_after (step m (Asked c message)) old.unsent) ≡ None
+  pub stands : StandsFor new (step m (Asked c message)).0
+  pub unsent : new.unsent ≡ unsent_after (step m (Asked c message)) old.unsent
+  pub door : IsDoor m.conns (step m (Asked c message)).0.conns told
 
 -- or not, and then nothing changes
 pub record IsHeld (old : Kept) (c : ℕ) (n : ℕ) (new : Kept) : Type 0 where
@@ -62,7 +63,7 @@ pub record IsCrowded (old : Kept) (m : Machine) (c : ℕ) (message : List ℕ) (
   pub bytes : List ℕ
   pub there : find nat_cmp c old.unsent ≡ Some bytes
   pub few : length bytes < HELD_LIMIT
-  pub crowds : crowded (unsent_after (built_step m (Asked c message)) old.unsent) ≡ Some d
+  pub crowds : crowded (unsent_after (step m (Asked c message)) old.unsent) ≡ Some d
   pub same : new ≡ old
 
 -- what a daemon answers to a request, for each store that it stands for
@@ -91,6 +92,7 @@ Pulled old c into new into_new pull.Gone = (find nat_cmp c old.unsent ≡ None) 
 pub record Adds (old : Kept) (c : ℕ) (spec : ConnSpec) (new : Kept) : Type 0 where
   pub unsent : new.unsent ≡ put nat_cmp c [] old.unsent
   pub specs : new.specs ≡ put nat_cmp c spec old.specs
+  pub watched : new.watched ≡ old.watched
   pub opens : new.opens ≡ put nat_cmp c [] old.opens
   pub tree : (new.tree ≡ old.tree) × (new.gens ≡ old.gens)
   pub stands : (m : Machine) → StandsFor old m → StandsFor new (with_conn c (fresh spec) m)

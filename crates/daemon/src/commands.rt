@@ -5,19 +5,21 @@ ghost use Rattle.std.specs.Ordering.{nat_cmp};
 ghost use Rattle.std.specs.FinMap.{find};
 ghost use Rattle.xs_model.specs.Trees.{IsTree};
 ghost use Rattle.xs_model.specs.Commands.{command as model_command, command_edits};
-ghost use Rattle.machine_model.specs.Connections.{fresh, caller_of};
+ghost use Rattle.machine_model.specs.Connections.{caller_of};
 ghost use Rattle.mark_model.specs.Marks.{overlay, write_all};
 ghost use Rattle.mark_model.specs.Stores.{kept_act};
 ghost use Rattle.wire_codec.specs.Codec.{IsInForm, request_view, operation_of};
-ghost use Rattle.daemon.specs.Acts.{Did as HasDone, IsAsBefore, IsWhole, kept_by};
+ghost use Rattle.daemon.specs.Acts.{Did as HasDone, IsAnswered, IsShort, IsAsBefore, IsWhole, kept_by};
 ghost use Rattle.daemon.specs.Commands.{IsRun, IsInside};
-ghost use Rattle.daemon.specs.Rows.{kept_txn};
+ghost use Rattle.conn_rows.specs.Rows.{kept_txn};
 ghost use Rattle.daemon.specs.Keeps.{store_of};
+ghost use Rattle.daemon.specs.Peers.{MayAsk, conn_in};
 
-use crate::change;
+use crate::answer::Door;
+use crate::change::{self, Asked, Hearers, Made};
 use crate::domains::Asker;
 use crate::peers::Peers;
-use crate::reply::{Answer, Reply};
+use crate::reply::{Answer, Answered, Reply, reply_length};
 use node_tree::Tree;
 use std::alloc::Global;
 use tree_ops::{Did, run};
@@ -63,22 +65,39 @@ pub fn outside(
     peers: &mut Peers,
     asker: Asker,
     command: &TreeCommand,
-) -> Result<Answer, NoMemory>
+) -> Result<Answered, NoMemory>
     requires whole { IsWhole tree.old peers.old }
     requires there { find nat_cmp asker.conn peers.old.specs ≡ Some asker.spec }
+    requires may { MayAsk asker.conn peers.old }
     requires form { IsInForm command.now }
-    ensures ok { IfOk result (λ answer. HasDone asker.conn tree.old peers.old
-        (kept_act (store_of (kept_by tree.old peers.old)) asker.conn (fresh asker.spec) 0 (request_view (Request.Command command.now))) answer tree.new peers.new) }
-    ensures short { IfOk result (λ answer. IfOk answer.reply (λ payload. length payload ≤ 4096)) }
+    ensures ok { IfOk result (λ answered. IsAnswered asker.conn tree.old peers.old
+        (kept_act (store_of (kept_by tree.old peers.old)) asker.conn (conn_in peers.old asker.conn asker.spec) 0 (request_view (Request.Command command.now))) answered tree.new peers.new) }
+    ensures short { IfOk result IsShort }
     ensures err { OnErr result (IsAsBefore tree.old peers.old tree.new peers.new) }
 {
     let number = tree.generation(&command.path).unwrap_or(0);
     let mut txn = Txn::start(alloc);
     let did = run_over(alloc, tree, &mut txn, asker, command, number, 0)?;
-    if !did.written.is_empty() {
-        change::make(tree, &mut peers.rows, txn)?;
+    if did.written.is_empty() {
+        return Ok(Answered::Done(Answer::of_reply(alloc, did.reply)));
     }
-    Ok(Answer::of_reply(did.reply))
+    let hearers = Hearers {
+        conns: &peers.conns,
+        watchers: &peers.watchers,
+    };
+    let asked = Asked {
+        conn: asker.conn,
+        reply: reply_length(&did.reply),
+    };
+    let owed = match change::make(tree, &mut peers.rows, &hearers, asked, txn)? {
+        Made::Crowded { conn } => return Ok(Answered::Crowded { conn }),
+        Made::Done(owed) => owed,
+    };
+    Ok(Answered::Done(Answer {
+        reply: did.reply,
+        door: Door::Same,
+        owed,
+    }))
 }
 
 /// So many paths a command looks at at the most: those on the way down to its own.
@@ -128,16 +147,17 @@ pub fn inside(
 ) -> Result<Answer, NoMemory>
     requires whole { IsWhole tree.now peers.old }
     requires there { find nat_cmp asker.conn peers.old.specs ≡ Some asker.spec }
+    requires may { MayAsk asker.conn peers.old }
     requires form { IsInForm command.now }
     requires inside { 1 ≤ tx_id }
     ensures ok { IfOk result (λ answer. HasDone asker.conn tree.now peers.old
-        (kept_act (store_of (kept_by tree.now peers.old)) asker.conn (fresh asker.spec) tx_id (request_view (Request.Command command.now))) answer tree.now peers.new) }
+        (kept_act (store_of (kept_by tree.now peers.old)) asker.conn (conn_in peers.old asker.conn asker.spec) tx_id (request_view (Request.Command command.now))) answer tree.now peers.new) }
     ensures short { IfOk result (λ answer. IfOk answer.reply (λ payload. length payload ≤ 4096)) }
     ensures err { OnErr result (IsAsBefore tree.now peers.old tree.now peers.new) }
 {
     let Some(txn) = peers.rows.txn_mut(asker.conn, tx_id) else {
-        return Ok(Answer::refused(WireErr::Enoent));
+        return Ok(Answer::refused(alloc, WireErr::Enoent));
     };
     let reply = run_inside(alloc, tree, txn, asker, command)?;
-    Ok(Answer::of_reply(reply))
+    Ok(Answer::of_reply(alloc, reply))
 }

@@ -8,23 +8,24 @@
 //! A transaction is kept as marks (`mark_model`), so that contracts see the daemon as the store that is kept, and a request
 //! as one step of it; [`laws`] has that its commits are serial.
 //!
-//! Today the requests are the eight tree commands, those on transactions, and those on domains.
+//! What a change owes to watches is counted before it is made (`watchers`), so that a request that would leave a
+//! connection too many unsent bytes changes nothing.
 #![tactic(auto)]
 
 mod act;
 mod answer;
 mod change;
 mod commands;
+mod committed;
 mod domains;
 pub mod laws;
 mod peers;
 mod reply;
-mod row;
-mod rows;
 mod service;
 #[cfg(test)]
 mod tests;
 mod transactions;
+mod watches;
 
 pub use answer::{Door, Pull, Submit};
 pub use conn_table::{AddErr, ConnSpec, Conns};

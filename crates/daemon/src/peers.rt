@@ -1,6 +1,6 @@
-//! The connections, with what is unsent to each.
+//! The connections, with the watches of each, what is unsent to it and its open transactions.
 
-ghost use Rattle.std.specs.Prelude.{◌≡◌, ◌≤◌, ◌<◌, ◌==◌, not, true, false, List, ℕ, [], ◌++◌, length, map, Some, None, is_some, OnOk, OnErr, IsErrOf, ◌↔◌};
+ghost use Rattle.std.specs.Prelude.{◌≡◌, ◌≤◌, ◌<◌, ◌==◌, not, true, false, List, ℕ, [], ◌++◌, length, map, Some, None, is_some, IfOk, OnOk, OnErr, IsErrOf, ◌↔◌};
 ghost use Rattle.std.specs.Option.{option_map};
 ghost use Rattle.std.specs.Ordering.{nat_cmp};
 ghost use Rattle.std.specs.FinMap.{find, put};
@@ -9,21 +9,32 @@ ghost use Rattle.xs_model.specs.Wholes.{whole_behind};
 ghost use Rattle.out_queues.specs.Queues.{Queue};
 ghost use Rattle.machine_model.specs.Connections.{with_evtchn, with_target, fresh, least_free};
 ghost use Rattle.conn_table.specs.Tables.{IsTable, ring_id, ring_domid, is_taken, has_its_ring, is_socket, count_sockets};
-ghost use Rattle.daemon.specs.Peers.{Connected, HasRoom, IsInBounds, IsSound, PulledFrom, unsent_of};
+ghost use Rattle.conn_rows.specs.Queued.{HasRoom, PulledFrom, unsent_of};
+ghost use Rattle.conn_rows.specs.Sending.{HasRoomFor, crowding, joined_by};
+ghost use Rattle.machine_model.specs.declared.bounds.TheConstants.{HELD_LIMIT};
+ghost use Rattle.machine_model.specs.History.{sent_to, unsent_to};
+ghost use Rattle.machine_model.specs.Machine.{special_sends};
+ghost use Rattle.daemon.specs.Peers.{Connected, IsInBounds, IsSound, conns_in, message_limit};
 
-use crate::rows::Rows;
+use conn_rows::Rows;
 use conn_table::{AddErr, ConnSpec, Conns};
+use owed_bytes::Owed;
 use std::alloc::Global;
 use std::marker::Model;
+use watchers::Watchers;
 use xs_base::NoMemory;
 
-/// The connections: what stands at the other end of each, and what is still to be sent to it.
+/// The most bytes of a message: a header of 16 and a payload of 4096.
+pub const MESSAGE_MAX: usize = 4112;
+
+/// The connections: what stands at the other end of each, its watches, and what is still to be sent to it.
 ///
-/// Contracts see the two tables by the connections' ids. That they belong together (`IsSound`) is a condition of the
-/// calls that edit them.
+/// Contracts see the tables by the connections' ids. That they belong together (`IsSound`) is a condition of the calls
+/// that edit them.
 #[derive(Drop)]
 pub struct Peers {
     pub(crate) conns: Conns,
+    pub(crate) watchers: Watchers,
     pub(crate) rows: Rows,
 }
 
@@ -32,18 +43,20 @@ impl Model for Peers {
 
     ghost Value = { Connected };
 
-    ghost view = { λ peers. record { specs = peers.conns; queues = peers.rows.queues; txns = peers.rows.txns } };
+    ghost view = { λ peers. record { specs = peers.conns; watched = peers.watchers; queues = peers.rows.queues; txns = peers.rows.txns } };
 }
 
 impl Peers {
     /// No connections. It takes no memory.
     pub fn new(alloc: Global) -> Peers
         ensures specs { result.specs ≡ [] }
+        ensures watched { result.watched ≡ [] }
         ensures queues { result.queues ≡ [] }
         ensures txns { result.txns ≡ [] }
     {
         Peers {
             conns: Conns::empty(alloc),
+            watchers: Watchers::new(alloc),
             rows: Rows::new(alloc),
         }
     }
@@ -69,6 +82,7 @@ impl Peers {
         ensures bytes { OnOk result (unsent_of self.new.queues ≡ put nat_cmp conn [] (unsent_of self.old.queues)) }
         ensures others { OnOk result ((other : ℕ) → (other == conn) ≡ false → find nat_cmp other self.new.queues ≡ find nat_cmp other self.old.queues) }
         ensures txns { OnOk result (self.new.txns ≡ put nat_cmp conn [] self.old.txns) }
+        ensures watched { self.new.watched ≡ self.old.watched }
         ensures err { OnErr result (self.new ≡ self.old) }
         ensures taken { IsErrOf result AddErr.Taken ↔ (is_taken conn spec self.old.specs ≡ true) }
         ensures table { OnOk result (IsTable self.new.specs) }
@@ -92,6 +106,7 @@ impl Peers {
         ensures bytes { OnOk result (unsent_of self.new.queues ≡ put nat_cmp (least_free self.old.specs) [] (unsent_of self.old.queues)) }
         ensures others { OnOk result ((other : ℕ) → (other == least_free self.old.specs) ≡ false → find nat_cmp other self.new.queues ≡ find nat_cmp other self.old.queues) }
         ensures txns { OnOk result (self.new.txns ≡ put nat_cmp (least_free self.old.specs) [] self.old.txns) }
+        ensures watched { self.new.watched ≡ self.old.watched }
         ensures err { OnErr result (self.new ≡ self.old) }
         ensures table { IsTable self.new.specs }
         ensures sound { OnOk result (domid ≤ 32751 → IsSound self.new) }
@@ -115,6 +130,7 @@ impl Peers {
         ensures absent { find nat_cmp conn self.old.specs ≡ None → self.new ≡ self.old }
         ensures queues { self.new.queues ≡ self.old.queues }
         ensures txns { self.new.txns ≡ self.old.txns }
+        ensures watched { self.new.watched ≡ self.old.watched }
         ensures table { IsTable self.new.specs }
         ensures sound { IsSound self.old → IsSound self.new }
     {
@@ -129,6 +145,7 @@ impl Peers {
         ensures absent { find nat_cmp conn self.old.specs ≡ None → self.new ≡ self.old }
         ensures queues { self.new.queues ≡ self.old.queues }
         ensures txns { self.new.txns ≡ self.old.txns }
+        ensures watched { self.new.watched ≡ self.old.watched }
         ensures table { IsTable self.new.specs }
         ensures sound { IsSound self.old → target ≤ 32751 → IsSound self.new }
     {
@@ -137,17 +154,19 @@ impl Peers {
         }
     }
 
-    /// Removes a connection with its unsent bytes, and says whether it was there. Every other one stays as it is. It
-    /// takes no memory, and moves the connections of higher ids.
+    /// Removes a connection with its watches, its unsent bytes and its transactions, and says whether it was there. Every
+    /// other one stays as it is. It takes no memory, and moves the connections of higher ids.
     pub fn remove(&mut self, conn: u32) -> bool
         ensures found { result ≡ is_some (find nat_cmp conn self.old.specs) }
         ensures specs { self.new.specs ≡ where_key nat_cmp (λ key. not (conn == key)) self.old.specs }
         ensures queues { self.new.queues ≡ where_key nat_cmp (λ key. not (conn == key)) self.old.queues }
         ensures txns { self.new.txns ≡ where_key nat_cmp (λ key. not (conn == key)) self.old.txns }
+        ensures watched { self.new.watched ≡ where_key nat_cmp (λ key. not (conn == key)) self.old.watched }
         ensures table { IsTable self.new.specs }
         ensures sound { IsSound self.old → IsSound self.new }
     {
         self.rows.remove(conn);
+        self.watchers.clear(conn);
         self.conns.remove(conn)
     }
 
@@ -157,22 +176,56 @@ impl Peers {
         ensures specs { self.new.specs ≡ self.old.specs }
         ensures bytes { unsent_of self.new.queues ≡ unsent_of self.old.queues }
         ensures txns { self.new.txns ≡ self.old.txns }
+        ensures watched { self.new.watched ≡ self.old.watched }
         ensures sound { IsSound self.old → IsSound self.new }
     {
         self.rows.reserve_bytes(conn, bytes)
     }
 
-    /// Appends a whole message to what is unsent to a connection, for which there is memory. O(its length).
-    pub fn push(&mut self, conn: u32, message: &[u8])
-        requires whole { whole_behind 0 message.now ≡ true }
-        requires room { HasRoom conn (length message.now) self.old.queues }
+    /// Takes memory for the longest reply to a connection and for what is owed. What is unsent is as before.
+    pub fn reserve_all(&mut self, conn: u32, owed: &Owed) -> Result<(), NoMemory>
+        requires sound { IsSound self.old }
+        ensures ok { OnOk result (HasRoomFor conn message_limit owed.now self.new.queues) }
         ensures specs { self.new.specs ≡ self.old.specs }
-        ensures bytes { (bytes : List ℕ) → find nat_cmp conn (unsent_of self.old.queues) ≡ Some bytes
-            → unsent_of self.new.queues ≡ put nat_cmp conn (bytes ++ message.now) (unsent_of self.old.queues) }
-        ensures absent { find nat_cmp conn self.old.queues ≡ None → self.new ≡ self.old }
+        ensures bytes { unsent_of self.new.queues ≡ unsent_of self.old.queues }
         ensures txns { self.new.txns ≡ self.old.txns }
+        ensures watched { self.new.watched ≡ self.old.watched }
+        ensures sound { IsSound self.new }
     {
-        self.rows.push(conn, message)
+        self.rows.reserve_all(conn, MESSAGE_MAX, owed)
+    }
+
+    /// What a special event owes.
+    pub fn special_owed(&self, special: &[u8]) -> Result<Owed, NoMemory>
+        requires sound { IsSound self.now }
+        ensures { IfOk result (λ owed. (c : ℕ) → sent_to c (special_sends special.now (conns_in self.now)) ≡ unsent_to c owed) }
+    {
+        self.watchers.special_owed(&self.conns, special)
+    }
+
+    /// The least connection that would have too many bytes unsent once a reply of so many bytes to `conn` and what is owed
+    /// were sent, if any.
+    pub fn crowding(&self, conn: u32, reply: usize, owed: &Owed) -> Option<u32>
+        requires sound { IsSound self.now }
+        requires few { (queue : Queue) → find nat_cmp conn self.now.queues ≡ Some queue → length queue.bytes < HELD_LIMIT }
+        requires reply { reply ≤ message_limit }
+        ensures { result ≡ crowding conn reply owed.now (unsent_of self.now.queues) }
+    {
+        self.rows.crowding(conn, reply, owed)
+    }
+
+    /// Appends a reply to what is unsent to `conn`, and what is owed to what is unsent to each connection, for which there
+    /// is memory.
+    pub fn send(&mut self, conn: u32, reply: &[u8], owed: &Owed)
+        requires sound { IsSound self.old }
+        requires whole { whole_behind 0 reply.now ≡ true }
+        requires room { HasRoomFor conn (length reply.now) owed.now self.old.queues }
+        ensures specs { self.new.specs ≡ self.old.specs }
+        ensures bytes { unsent_of self.new.queues ≡ joined_by conn reply.now owed.now (unsent_of self.old.queues) }
+        ensures txns { self.new.txns ≡ self.old.txns }
+        ensures watched { self.new.watched ≡ self.old.watched }
+    {
+        self.rows.send(conn, reply, owed)
     }
 
     /// Moves the first unsent bytes of a connection into `into`, and says how many; none where it is not there. O(bytes
@@ -180,6 +233,7 @@ impl Peers {
     pub fn pull(&mut self, conn: u32, into: &mut [u8]) -> Option<usize>
         ensures specs { self.new.specs ≡ self.old.specs }
         ensures txns { self.new.txns ≡ self.old.txns }
+        ensures watched { self.new.watched ≡ self.old.watched }
         ensures sound { IsSound self.old → IsSound self.new }
         ensures pulled { PulledFrom self.old.queues conn into.old self.new.queues into.new result }
     {

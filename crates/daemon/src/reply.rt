@@ -1,11 +1,14 @@
 //! Replies, and their bytes.
 
-ghost use Rattle.std.specs.Prelude.{◌≡◌, ◌≤◌, ⊤, length, take, IfOk, Ok, Err};
+ghost use Rattle.std.specs.Prelude.{◌≡◌, ◌≤◌, [], length, take, IfOk, Ok, Err};
 ghost use Rattle.xs_model.specs.Messages.{header_of, payload_of, message_bytes, string, error_name};
 ghost use Rattle.machine_model.specs.Machine.{reply_message};
-ghost use Rattle.daemon.specs.Acts.{IsReply};
+ghost use Rattle.daemon.specs.Acts.{IsReply, reply_length};
+ghost use Rattle.daemon.specs.Peers.{message_limit};
 
 use crate::answer::Door;
+use owed_bytes::Owed;
+use std::alloc::Global;
 use wire_codec::{Header, WireErr, put_message, read_header};
 use xs_base::Bytes;
 use xs_model::message::kind;
@@ -13,45 +16,65 @@ use xs_model::message::kind;
 /// What a request is answered: a payload, or an error.
 pub type Reply = Result<Bytes, WireErr>;
 
-/// What a request is answered, and which ring connection came or went with it.
-#[derive(Debug, Drop)]
+/// What a request is answered, which ring connection came or went with it, and what it owes to connections.
+#[derive(Drop)]
 pub struct Answer {
     pub reply: Reply,
     pub door: Door,
+    pub owed: Owed,
 }
 
 impl Answer {
-    /// A payload, with all connections as they were.
-    pub fn of(payload: Bytes) -> Answer
+    /// A payload, with all connections as they were, and nothing owed.
+    pub fn of(alloc: Global, payload: Bytes) -> Answer
         ensures reply { result.reply ≡ Ok payload }
         ensures door { result.door ≡ Door.Same }
+        ensures owed { result.owed ≡ [] }
     {
-        Answer {
-            reply: Ok(payload),
-            door: Door::Same,
-        }
+        Answer::of_reply(alloc, Ok(payload))
     }
 
-    /// A reply, with all connections as they were.
-    pub fn of_reply(reply: Reply) -> Answer
+    /// A reply, with all connections as they were, and nothing owed.
+    pub fn of_reply(alloc: Global, reply: Reply) -> Answer
         ensures reply { result.reply ≡ reply }
         ensures door { result.door ≡ Door.Same }
+        ensures owed { result.owed ≡ [] }
     {
         Answer {
             reply,
             door: Door::Same,
+            owed: Owed::new(alloc),
         }
     }
 
-    /// A refusal, with all connections as they were.
-    pub fn refused(error: WireErr) -> Answer
+    /// A refusal, with all connections as they were, and nothing owed.
+    pub fn refused(alloc: Global, error: WireErr) -> Answer
         ensures reply { result.reply ≡ Err error }
         ensures door { result.door ≡ Door.Same }
+        ensures owed { result.owed ≡ [] }
     {
-        Answer {
-            reply: Err(error),
-            door: Door::Same,
-        }
+        Answer::of_reply(alloc, Err(error))
+    }
+}
+
+/// What comes of a request.
+#[derive(Drop)]
+pub enum Answered {
+    /// It was done.
+    Done(Answer),
+    /// It was not: this connection would have too many unsent bytes.
+    Crowded { conn: u32 },
+}
+
+/// The number of bytes of a reply's message.
+pub fn reply_length(reply: &Reply) -> usize
+    requires { IfOk reply.now (λ payload. length payload ≤ 4096) }
+    ensures value { result ≡ reply_length reply.now }
+    ensures within { result ≤ message_limit }
+{
+    match reply {
+        Ok(payload) => 16 + payload.len(),
+        Err(error) => 16 + error_string(*error).len(),
     }
 }
 

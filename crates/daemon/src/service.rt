@@ -9,24 +9,22 @@ ghost use Rattle.machine_model.specs.Connections.{ring_of};
 ghost use Rattle.machine_model.specs.Machine.{Machine, new_machine};
 ghost use Rattle.conn_table.specs.Tables.{IsTable, is_taken, is_socket, count_sockets};
 ghost use Rattle.daemon.specs.Keeps.{StandsFor};
-ghost use Rattle.daemon.specs.Peers.{IsInBounds, IsSoundTable, unsent_of};
+ghost use Rattle.conn_rows.specs.Queued.{unsent_of};
+ghost use Rattle.daemon.specs.Peers.{IsInBounds, IsSoundTable};
 ghost use Rattle.daemon.specs.Acts.{IsWhole, kept_by};
 ghost use Rattle.daemon.specs.Submits.{StepsIfDone, Submits, Pulled, Adds, Drops};
 
 use crate::act::answer;
 use crate::answer::{Door, Pull, Submit};
 use crate::domains::Asker;
-use crate::peers::Peers;
-use crate::reply::{head_of, payload_of, put_reply};
+use crate::peers::{MESSAGE_MAX, Peers};
+use crate::reply::{Answered, head_of, payload_of, put_reply};
 use conn_table::{AddErr, ConnSpec, Conns};
 use machine_model::HELD_LIMIT;
 use node_tree::Tree;
 use std::alloc::Global;
 use std::marker::Model;
 use xs_base::NoMemory;
-
-/// The most bytes of a message: a header of 16 and a payload of 4096.
-const MESSAGE_MAX: usize = 4112;
 
 /// The store, and the bytes that it has still to send.
 ///
@@ -82,12 +80,14 @@ impl Daemon {
         self.peers.add(id, spec)
     }
 
-    /// Takes one whole request of a connection: a header and its payload. Refused, nothing has changed. Every other
-    /// connection keeps what is unsent to it.
+    /// Takes one whole request of a connection: a header and its payload. What it owes to watches joins the unsent bytes of
+    /// their connections, behind the reply. Refused, nothing has changed.
     ///
     /// O(log connections + length of the message), and what the request costs: a tree command what `tree_ops` says, and a
     /// change of the tree a search in each open transaction for each changed path, and where it keeps the node that stood
-    /// there, a copy of that; START O(log open transactions); INTRODUCE and RELEASE a move of the connections of higher ids.
+    /// there, a copy of that, a look-up of each written path and of those above it among what is watched, and a search and a
+    /// message for each watch that is told; START O(log open transactions); INTRODUCE and RELEASE a move of the connections
+    /// of higher ids, and a look at each connection; RESET_WATCHES what it removes.
     pub fn submit(&mut self, conn: u32, message: &[u8]) -> Result<Submit, NoMemory>
         requires { 16 ≤ length message.now }
         // What is kept after it is a function of what was kept: one step of the store that is kept.
@@ -161,8 +161,8 @@ impl Daemon {
     }
 }
 
-/// Takes one whole request of a connection that is there and has few unsent bytes. All memory for what it is answered is
-/// taken before anything changes.
+/// Takes one whole request of a connection that is there and has few unsent bytes. All memory for what it is answered and
+/// for what is owed is taken before anything changes.
 fn submit_to(
     alloc: Global,
     tree: &mut Tree,
@@ -182,10 +182,14 @@ fn submit_to(
 {
     peers.reserve(asker.conn, MESSAGE_MAX)?;
     let head = head_of(message);
-    let answer = answer(alloc, tree, peers, asker, head, payload_of(message))?;
-    let len = put_reply(head, &answer.reply, reply);
-    peers.push(asker.conn, first(reply, len));
-    Ok(Submit::Done(answer.door))
+    match answer(alloc, tree, peers, asker, head, payload_of(message))? {
+        Answered::Crowded { conn } => Ok(Submit::Crowded { conn }),
+        Answered::Done(answer) => {
+            let len = put_reply(head, &answer.reply, reply);
+            peers.send(asker.conn, first(reply, len), &answer.owed);
+            Ok(Submit::Done(answer.door))
+        }
+    }
 }
 
 /// The first so many bytes of a reply.

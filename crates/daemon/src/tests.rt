@@ -22,6 +22,24 @@ const WRITE_INSIDE: [u8; 20] = [
 /// TRANSACTION_END of transaction 1, with a commit.
 const END: [u8; 18] = [7, 0, 0, 0, 1, 0, 0, 0, 1, 0, 0, 0, 2, 0, 0, 0, b'T', 0];
 
+/// A WRITE of `x` to the path `/a`.
+const WRITE: [u8; 20] = [
+    11, 0, 0, 0, 1, 0, 0, 0, 0, 0, 0, 0, 4, 0, 0, 0, b'/', b'a', 0, b'x',
+];
+
+/// WATCH of the path `/a` with the token `t`.
+const WATCH: [u8; 21] = [
+    4, 0, 0, 0, 1, 0, 0, 0, 0, 0, 0, 0, 5, 0, 0, 0, b'/', b'a', 0, b't', 0,
+];
+
+/// UNWATCH of it.
+const UNWATCH: [u8; 21] = [
+    5, 0, 0, 0, 1, 0, 0, 0, 0, 0, 0, 0, 5, 0, 0, 0, b'/', b'a', 0, b't', 0,
+];
+
+/// RESET_WATCHES.
+const RESET: [u8; 17] = [21, 0, 0, 0, 1, 0, 0, 0, 0, 0, 0, 0, 1, 0, 0, 0, 0];
+
 /// INTRODUCE of domain 5, with the event channel 3.
 const INTRODUCE: [u8; 22] = [
     8, 0, 0, 0, 1, 0, 0, 0, 0, 0, 0, 0, 6, 0, 0, 0, b'5', 0, b'1', 0, b'3', 0,
@@ -118,5 +136,26 @@ fn commits_a_transaction(rt: HostRuntime) -> Result<(), Fail> {
     // Then it is there, with a value of one byte.
     assert_eq!(rt; submit(&mut daemon, 1, &READ)?, done);
     assert_eq!(rt; daemon.unsent(1), Some(96));
+    Ok(())
+}
+
+#[test]
+fn tells_a_watch(rt: HostRuntime) -> Result<(), Fail> {
+    let mut daemon = Daemon::new(rt.alloc())?;
+    let done = Submit::Done(Door::Same);
+    // A reply of 19 bytes, and the first event of 21.
+    assert_eq!(rt; submit(&mut daemon, 1, &WATCH)?, done);
+    assert_eq!(rt; daemon.unsent(1), Some(40));
+    // The same again is refused: 23 bytes.
+    assert_eq!(rt; submit(&mut daemon, 1, &WATCH)?, done);
+    assert_eq!(rt; daemon.unsent(1), Some(63));
+    // A reply and an event.
+    assert_eq!(rt; submit(&mut daemon, 1, &WRITE)?, done);
+    assert_eq!(rt; daemon.unsent(1), Some(103));
+    // Then nobody watches any more.
+    assert_eq!(rt; submit(&mut daemon, 1, &RESET)?, done);
+    assert_eq!(rt; submit(&mut daemon, 1, &WRITE)?, done);
+    assert_eq!(rt; submit(&mut daemon, 1, &UNWATCH)?, done);
+    assert_eq!(rt; daemon.unsent(1), Some(164));
     Ok(())
 }

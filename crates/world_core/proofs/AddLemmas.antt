@@ -11,7 +11,7 @@ use Rattle.conn_table.specs.Tables.{ring_id}
 use Rattle.world_model.specs.Worlds.{World, fresh_guest, empty_channel, with_start, domain_added}
 use Rattle.world_laws.proofs.EntryLemmas.{value_of}
 use Rattle.daemon.specs.Submits.{Adds}
-use Rattle.daemon.proofs.KeepsLemmas.{put_map}
+use Rattle.conn_rows.proofs.IdEntries.{put_map}
 use Rattle.world_core.specs.Stands.{Kept, StandsFor, AddsDomain}
 use Rattle.world_core.specs.Seats.{IsSeated}
 use Rattle.world_core.proofs.SpecLemmas.{ring_as, free_as}

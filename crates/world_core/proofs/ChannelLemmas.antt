@@ -12,7 +12,7 @@ use Rattle.machine_model.specs.Machine.{Step, Send}
 use Rattle.machine_model.specs.History.{bytes_or_none, sent_to, unsent_after}
 use Rattle.world_model.specs.Worlds.{Channel, channel_or_empty, channel_after, channels_after, unsent_of}
 use Rattle.world_laws.proofs.EntryLemmas.{each_is_itself}
-use Rattle.daemon.proofs.KeepsLemmas.{same_there, none_there}
+use Rattle.conn_rows.proofs.IdEntries.{same_there, none_there}
 use Rattle.world_core.specs.Stands.{inboxes_of}
 
 abbrev pub ids : {X : Type 0} → List (ℕ × X) → List ℕ

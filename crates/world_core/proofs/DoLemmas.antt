@@ -5,8 +5,8 @@ use Rattle.std.proofs.lemmas.Bool.Decides.{nat_tests}
 use Rattle.std.specs.Ordering.{nat_cmp}
 use Rattle.std.specs.FinMap.{find, put}
 use Rattle.xs_model.proofs.Maps.{from_Some, not_Some}
-use Rattle.machine_model.specs.Machine.{Machine, Item, Asked}
-use Rattle.daemon.specs.Built.{built_types, built_step}
+use Rattle.machine_model.specs.Machine.{Machine, Item, Asked, step}
+use Rattle.xs_model.specs.Requests.{all_types}
 use Rattle.machine_model.specs.History.{unsent_after, crowded}
 use Rattle.world_model.specs.declared.Said.{Said}
 use Rattle.world_model.specs.declared.Said.TheVariants as said
@@ -47,22 +47,22 @@ acts_intake old new answer d c max fronts acts w at stands h conn =
 
 -- DO
 module _ (old : Kept) (d c : ℕ) where
-  pub acts_part : Fronts old c Part → Acts old d c (do_event built_types d) old said.Part
+  pub acts_part : Fronts old c Part → Acts old d c (do_event all_types d) old said.Part
   acts_part fronts w at stands h conn =
-      subst (λ g. Follows old said.Part (do_at g built_types d w at)) (in_front old w d c at Part fronts stands h conn)
+      subst (λ g. Follows old said.Part (do_at g all_types d w at)) (in_front old w d c at Part fronts stands h conn)
       (unchanged old w said.Part stands (λ n e. cc))
 
-  pub acts_too_long : (new : Kept) (answer : Said) (len : ℕ) → Fronts old c (TooLong len) → Acts old d c (dropped d 3 (said.DroppedLength len)) new answer → Acts old d c (do_event built_types d) new answer
+  pub acts_too_long : (new : Kept) (answer : Said) (len : ℕ) → Fronts old c (TooLong len) → Acts old d c (dropped d 3 (said.DroppedLength len)) new answer → Acts old d c (do_event all_types d) new answer
   acts_too_long new answer len fronts acts w at stands h conn =
-      subst (λ g. Follows new answer (do_at g built_types d w at)) (in_front old w d c at (TooLong len) fronts stands h conn) (acts w at stands h conn)
+      subst (λ g. Follows new answer (do_at g all_types d w at)) (in_front old w d c at (TooLong len) fronts stands h conn) (acts w at stands h conn)
 
-  pub acts_whole : (new : Kept) (answer : Said) (n : ℕ) → Fronts old c (Whole n) → ActsOrNone old d c (do_message built_types n) new answer → ActsOrNone old d c (do_event built_types d) new answer
+  pub acts_whole : (new : Kept) (answer : Said) (n : ℕ) → Fronts old c (Whole n) → ActsOrNone old d c (do_message all_types n) new answer → ActsOrNone old d c (do_event all_types d) new answer
   acts_whole new answer n fronts (inl none) = inl none
   acts_whole new answer n fronts (inr acts) =
-      inr (λ w at stands h conn. subst (λ g. Follows new answer (do_at g built_types d w at)) (in_front old w d c at (Whole n) fronts stands h conn) (acts w at stands h conn))
+      inr (λ w at stands h conn. subst (λ g. Follows new answer (do_at g all_types d w at)) (in_front old w d c at (Whole n) fronts stands h conn) (acts w at stands h conn))
 
 -- a step, from what is done to who is served; memory may be wanting
-pub steps_or_none : (old new : Kept) (e : Event) (answer : Said) (d c : ℕ) (act : World → Served → Told) → TakesMemory e → ((w : World) → event_with built_types e w ≡ server_event d act w) → IsServed old d (Some c) → ActsOrNone old d c act new answer → Steps old e new answer
+pub steps_or_none : (old new : Kept) (e : Event) (answer : Said) (d c : ℕ) (act : World → Served → Told) → TakesMemory e → ((w : World) → event_with all_types e w ≡ server_event d act w) → IsServed old d (Some c) → ActsOrNone old d c act new answer → Steps old e new answer
 steps_or_none old new e answer d c act takes is is_served (inl none) = inl (record { none = none.0; takes = takes; same = none.1 })
 steps_or_none old new e answer d c act takes is is_served (inr acts) =
     inr (λ w stands. subst (λ t. Follows new answer t) (sym (is w)) (connection_acts old d act new answer c is_served acts w stands))
@@ -84,15 +84,15 @@ module _ (old new : Kept) (w : World) (d : ℕ) (at : Served) (n : ℕ) (stands 
   unsent_is : (bytes : List ℕ) → find nat_cmp at.conn old.daemon.unsent ≡ Some bytes → bytes ≡ at.channel.unsent
   unsent_is bytes there = from_Some (sym there ∙ parts.unsent)
 
-  crowd_is : crowded (unsent_of (channels_after (stepped old new w at n (take n at.channel.inbox) stands parts.channel) (left old new w at n (take n at.channel.inbox) stands parts.channel))) ≡ crowded (unsent_after (built_step w.machine (Asked at.conn (take n at.channel.inbox))) old.daemon.unsent)
+  crowd_is : crowded (unsent_of (channels_after (stepped old new w at n (take n at.channel.inbox) stands parts.channel) (left old new w at n (take n at.channel.inbox) stands parts.channel))) ≡ crowded (unsent_after (step w.machine (Asked at.conn (take n at.channel.inbox))) old.daemon.unsent)
   crowd_is = ap crowded (unsent_then old new w at n (take n at.channel.inbox) stands parts.channel)
 
-  pub done : (door : Door) → Takes old.daemon w.machine at.conn (take n at.channel.inbox) door new.daemon → IsSoundTable new.daemon.specs → Follow old new w at n (take n at.channel.inbox) stands parts.channel door → Follows new said.Done (do_message built_types n w at)
+  pub done : (door : Door) → Takes old.daemon w.machine at.conn (take n at.channel.inbox) door new.daemon → IsSoundTable new.daemon.specs → Follow old new w at n (take n at.channel.inbox) stands parts.channel door → Follows new said.Done (do_message all_types n w at)
   done door takes sound follow =
       let few = subst (λ u. length u < 32768) (unsent_is takes.bytes takes.there) takes.few in
-      subst (λ b. Follows new said.Done (cond b (told w (said.Held (length at.channel.unsent))) (do_step built_types n w at (Asked at.conn (take n at.channel.inbox)))))
+      subst (λ b. Follows new said.Done (cond b (told w (said.Held (length at.channel.unsent))) (do_step all_types n w at (Asked at.conn (take n at.channel.inbox)))))
       (sym (not_held at.channel.unsent few))
-      (subst (λ o. Follows new said.Done (done_unless o w (Asked at.conn (take n at.channel.inbox)) (built_step w.machine (Asked at.conn (take n at.channel.inbox))) (channels_after (built_step w.machine (Asked at.conn (take n at.channel.inbox))) (left old new w at n (take n at.channel.inbox) stands parts.channel))))
+      (subst (λ o. Follows new said.Done (done_unless o w (Asked at.conn (take n at.channel.inbox)) (step w.machine (Asked at.conn (take n at.channel.inbox))) (channels_after (step w.machine (Asked at.conn (take n at.channel.inbox))) (left old new w at n (take n at.channel.inbox) stands parts.channel))))
       (sym (crowd_is ∙ takes.uncrowded))
       (record {
         says = refl;
@@ -100,20 +100,20 @@ module _ (old new : Kept) (w : World) (d : ℕ) (at : Served) (n : ℕ) (stands 
         taken = λ k e. cc;
       }))
 
-  pub held : (u : ℕ) → IsHeld old.daemon at.conn u new.daemon → new ≡ old → Follows new (said.Held u) (do_message built_types n w at)
+  pub held : (u : ℕ) → IsHeld old.daemon at.conn u new.daemon → new ≡ old → Follows new (said.Held u) (do_message all_types n w at)
   held u holds same =
       let number : u ≡ length at.channel.unsent = holds.number ∙ ap (λ (l : List ℕ). length l) (unsent_is holds.bytes holds.there) in
-      subst (λ b. Follows new (said.Held u) (cond b (told w (said.Held (length at.channel.unsent))) (do_step built_types n w at (Asked at.conn (take n at.channel.inbox)))))
+      subst (λ b. Follows new (said.Held u) (cond b (told w (said.Held (length at.channel.unsent))) (do_step all_types n w at (Asked at.conn (take n at.channel.inbox)))))
       (sym (is_held (length at.channel.unsent) (subst (λ k. 32768 ≤ k) number holds.many)))
       (subst (λ k. Follows k (said.Held u) (told w (said.Held (length at.channel.unsent)))) (sym same)
       (subst (λ k. Follows old (said.Held k) (told w (said.Held (length at.channel.unsent)))) (sym number) (unchanged old w (said.Held (length at.channel.unsent)) stands (λ k e. cc))))
 
-  pub crowds : (conn : ℕ) → IsCrowded old.daemon w.machine at.conn (take n at.channel.inbox) conn new.daemon → new ≡ old → Follows new (said.Crowded conn) (do_message built_types n w at)
+  pub crowds : (conn : ℕ) → IsCrowded old.daemon w.machine at.conn (take n at.channel.inbox) conn new.daemon → new ≡ old → Follows new (said.Crowded conn) (do_message all_types n w at)
   crowds conn is same =
       let few = subst (λ u. length u < 32768) (unsent_is is.bytes is.there) is.few in
-      subst (λ b. Follows new (said.Crowded conn) (cond b (told w (said.Held (length at.channel.unsent))) (do_step built_types n w at (Asked at.conn (take n at.channel.inbox)))))
+      subst (λ b. Follows new (said.Crowded conn) (cond b (told w (said.Held (length at.channel.unsent))) (do_step all_types n w at (Asked at.conn (take n at.channel.inbox)))))
       (sym (not_held at.channel.unsent few))
-      (subst (λ o. Follows new (said.Crowded conn) (done_unless o w (Asked at.conn (take n at.channel.inbox)) (built_step w.machine (Asked at.conn (take n at.channel.inbox))) (channels_after (built_step w.machine (Asked at.conn (take n at.channel.inbox))) (left old new w at n (take n at.channel.inbox) stands parts.channel))))
+      (subst (λ o. Follows new (said.Crowded conn) (done_unless o w (Asked at.conn (take n at.channel.inbox)) (step w.machine (Asked at.conn (take n at.channel.inbox))) (channels_after (step w.machine (Asked at.conn (take n at.channel.inbox))) (left old new w at n (take n at.channel.inbox) stands parts.channel))))
       (sym (crowd_is ∙ is.crowds))
       (subst (λ k. Follows k (said.Crowded conn) (told w (said.Crowded conn))) (sym same) (unchanged old w (said.Crowded conn) stands (λ k e. cc))))
 
@@ -150,7 +150,7 @@ module _ (old new : Kept) (d c : ℕ) where
 
     pub acts_done : (door : Door) → ((m : Machine) → daemon.StandsFor old.daemon m → Takes old.daemon m c message door new.daemon) → IsSoundTable new.daemon.specs
         → (mid : Tables) → ((bytes : List ℕ) → find nat_cmp c old.inboxes ≡ Some bytes → mid.inboxes ≡ put nat_cmp c (drop n bytes) old.inboxes) → mid.guests ≡ old.guests → mid.rings ≡ old.rings
-        → SeatsFollow new.daemon door mid (record { inboxes = new.inboxes; guests = new.guests; rings = new.rings }) → Acts old d c (do_message built_types n) new said.Done
+        → SeatsFollow new.daemon door mid (record { inboxes = new.inboxes; guests = new.guests; rings = new.rings }) → Acts old d c (do_message all_types n) new said.Done
     acts_done door takes sound mid inboxes same_guests same_rings follow w at stands h conn =
         let same = inbox_is w at stands h conn in
         let took : Takes old.daemon w.machine at.conn (take n at.channel.inbox) door new.daemon =
@@ -162,13 +162,13 @@ module _ (old new : Kept) (d c : ℕ) where
         (subst (λ tables. SeatsFollow new.daemon door tables (record { inboxes = new.inboxes; guests = new.guests; rings = new.rings }))
         (same_tables mid (record { inboxes = put nat_cmp at.conn (drop n at.channel.inbox) old.inboxes; guests = old.guests; rings = old.rings }) skipped same_guests same_rings) follow)
 
-    pub acts_held : (after : daemon.Kept) (u : ℕ) → IsHeld old.daemon c u after → new ≡ old → Acts old d c (do_message built_types n) new (said.Held u)
+    pub acts_held : (after : daemon.Kept) (u : ℕ) → IsHeld old.daemon c u after → new ≡ old → Acts old d c (do_message all_types n) new (said.Held u)
     acts_held after u holds same w at stands h conn =
         held old new w d at n stands h u
         (subst (λ k. IsHeld old.daemon k u new.daemon) (sym conn)
         (record { bytes = holds.bytes; there = holds.there; number = holds.number; many = holds.many; same = ap (λ (k : Kept). k.daemon) same })) same
 
-    pub acts_crowded : (after : daemon.Kept) (e : ℕ) → ((m : Machine) → daemon.StandsFor old.daemon m → IsCrowded old.daemon m c message e after) → new ≡ old → Acts old d c (do_message built_types n) new (said.Crowded e)
+    pub acts_crowded : (after : daemon.Kept) (e : ℕ) → ((m : Machine) → daemon.StandsFor old.daemon m → IsCrowded old.daemon m c message e after) → new ≡ old → Acts old d c (do_message all_types n) new (said.Crowded e)
     acts_crowded after e is same w at stands h conn =
         let found = is w.machine stands.store in
         crowds old new w d at n stands h e
@@ -176,7 +176,7 @@ module _ (old new : Kept) (d c : ℕ) where
         (subst (λ m. IsCrowded old.daemon w.machine c m e new.daemon) (first ∙ ap (take n) (inbox_is w at stands h conn))
         (record { bytes = found.bytes; there = found.there; few = found.few; crowds = found.crowds; same = ap (λ (k : Kept). k.daemon) same }))) same
 
-    pub acts_gone : (answer : Said) → find nat_cmp c old.daemon.unsent ≡ None → Acts old d c (do_message built_types n) new answer
+    pub acts_gone : (answer : Said) → find nat_cmp c old.daemon.unsent ≡ None → Acts old d c (do_message all_types n) new answer
     acts_gone answer none w at stands h conn =
         not_Some (sym none ∙ ap (λ k. find nat_cmp k old.daemon.unsent) (sym conn) ∙ (parts_of old w d at stands h).unsent)
 

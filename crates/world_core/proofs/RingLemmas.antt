@@ -7,21 +7,21 @@ use Rattle.std.specs.FinMap.Entries.{where_key}
 use Rattle.std.proofs.lemmas.Bool.{cases_Bool, and_parts}
 use Rattle.std.proofs.lemmas.Cmp.{nat_cmp_total}
 use Rattle.xs_model.proofs.Maps.{from_Some, not_both, found_map, sorted_put, sorted_where, tied}
-use Rattle.daemon.specs.Built.{built_types}
+use Rattle.xs_model.specs.Requests.{all_types}
 use Rattle.machine_model.specs.declared.ConnSpec.{ConnSpec}
 use Rattle.machine_model.specs.declared.ConnSpec.TheVariants.{Ring, Socket}
 use Rattle.machine_model.specs.Connections.{Connection, Connections, fresh, is_ring_of, ring_of}
 use Rattle.machine_model.specs.Limits.{HasIds}
-use Rattle.machine_model.specs.Machine.{Machine, Item}
-use Rattle.daemon.specs.Built.{built_step}
+use Rattle.machine_model.specs.Machine.{Machine, Item, step}
 use Rattle.conn_table.specs.Tables.{Specs, specs_of, ring_id, has_its_ring, has_distinct_rings}
 use Rattle.world_model.specs.Worlds.{ring_domid}
 use Rattle.world_laws.specs.Laws.{HasOneRingEach}
 use Rattle.world_laws.proofs.ConnLemmas.{ends, OneRingEach, one_ring_each, no_ring, ring_ends, ring_is}
 use Rattle.world_laws.proofs.EntryLemmas.{value_of, mapped_some, not_none, found_same, found_other, lost_same, lost_other}
 use Rattle.world_laws.proofs.StepLemmas.{step_moves}
-use Rattle.daemon.specs.Keeps.{conns_of}
-use Rattle.daemon.proofs.KeepsLemmas.{conns_found, conns_ring, same_there}
+use Rattle.watchers.specs.Watched.{conns_of}
+use Rattle.conn_rows.proofs.IdEntries.{same_there}
+use Rattle.daemon.proofs.KeepsLemmas.{conns_found, conns_ring}
 use Rattle.world_core.proofs.SpecLemmas.{ring_by_spec}
 use Rattle.world_core.proofs.ChannelLemmas.{ids}
 
@@ -31,38 +31,38 @@ is_not true h = sym h
 is_not false h = refl
 
 -- an entry is no ring of a domain that has its ring behind it
-not_twice : (d c : ℕ) (spec : ConnSpec) (es : Specs) → has_its_ring spec es ≡ false → ring_of d (conns_of es) ≡ Some c → is_ring_of d spec ≡ false
+not_twice : (d c : ℕ) (spec : ConnSpec) (es : Specs) → has_its_ring spec es ≡ false → ring_of d (conns_of es []) ≡ Some c → is_ring_of d spec ≡ false
 not_twice d c (Socket fd) es alone ring = refl
 not_twice d c (Ring domid target evtchn) es alone ring =
     elim (cases_Bool (d == domid)) [
-      | inl t ↦ not_both (ap is_some (ap (λ k. ring_id k es) (sym (eqb-true d domid t)) ∙ sym (conns_ring d es) ∙ ring)) alone
+      | inl t ↦ not_both (ap is_some (ap (λ k. ring_id k es) (sym (eqb-true d domid t)) ∙ sym (conns_ring [] d es) ∙ ring)) alone
       | inr f ↦ f
     ]
 
-has_one_ring_each : (specs : Specs) → has_distinct_rings specs ≡ true → HasOneRingEach (conns_of specs)
+has_one_ring_each : (specs : Specs) → has_distinct_rings specs ≡ true → HasOneRingEach (conns_of specs [])
 has_one_ring_each [] distinct c d conn = λ there. not_none there refl
 has_one_ring_each (e ∷ es) distinct c d conn =
     let parts = and_parts (not (has_its_ring e.1 es)) (has_distinct_rings es) distinct in
-    let rest : find nat_cmp c (conns_of es) ≡ Some conn → is_ring_of d conn.spec ≡ true → ring_of d (conns_of es) ≡ Some c = has_one_ring_each es parts.1 c d conn in
-    elim (eq_by_cmp nat_cmp c e.0) as (λ b. eq_by_cmp nat_cmp c e.0 ≡ b → cond b (Some (fresh e.1)) (find nat_cmp c (conns_of es)) ≡ Some conn → is_ring_of d conn.spec ≡ true → ring_of d (conns_of (e ∷ es)) ≡ Some c) [
+    let rest : find nat_cmp c (conns_of es []) ≡ Some conn → is_ring_of d conn.spec ≡ true → ring_of d (conns_of es []) ≡ Some c = has_one_ring_each es parts.1 c d conn in
+    elim (eq_by_cmp nat_cmp c e.0) as (λ b. eq_by_cmp nat_cmp c e.0 ≡ b → cond b (Some (fresh e.1)) (find nat_cmp c (conns_of es [])) ≡ Some conn → is_ring_of d conn.spec ≡ true → ring_of d (conns_of (e ∷ es) []) ≡ Some c) [
       | true ↦ λ t there ring.
-          ap (λ b. cond b (Some e.0) (ring_of d (conns_of es))) (ap (λ (x : Connection). is_ring_of d x.spec) (from_Some there) ∙ ring)
+          ap (λ b. cond b (Some e.0) (ring_of d (conns_of es []))) (ap (λ (x : Connection). is_ring_of d x.spec) (from_Some there) ∙ ring)
           ∙ ap Some (sym (nat_cmp-IsAntisymmetric c e.0 (tied nat_cmp nat_cmp_total c e.0 t)))
       | false ↦ λ t there ring.
           let later = rest there ring in
-          ap (λ b. cond b (Some e.0) (ring_of d (conns_of es))) (not_twice d c e.1 es (is_not (has_its_ring e.1 es) parts.0) later) ∙ later
+          ap (λ b. cond b (Some e.0) (ring_of d (conns_of es []))) (not_twice d c e.1 es (is_not (has_its_ring e.1 es) parts.0) later) ∙ later
     ] refl
 
 -- so has each store with these other ends
 module _ (specs : Specs) (distinct : has_distinct_rings specs ≡ true) (conns : Connections) (same : specs_of conns ≡ specs) where
-  found_fresh : (c : ℕ) (conn : Connection) → find nat_cmp c conns ≡ Some conn → find nat_cmp c (conns_of specs) ≡ Some (fresh conn.spec)
+  found_fresh : (c : ℕ) (conn : Connection) → find nat_cmp c conns ≡ Some conn → find nat_cmp c (conns_of specs []) ≡ Some (fresh conn.spec)
   found_fresh c conn there =
-      conns_found c specs ∙ ap (λ (es : Specs). option_map fresh (find nat_cmp c es)) (sym same)
+      conns_found [] c specs ∙ ap (λ (es : Specs). option_map fresh (find nat_cmp c es)) (sym same)
       ∙ ap (option_map fresh) (found_map nat_cmp (λ (x : Connection). x.spec) c conns ∙ ap (option_map (λ (x : Connection). x.spec)) there)
 
   has_one : HasOneRingEach conns
   has_one c d conn there ring =
-      ring_by_spec d conns ∙ ap (ring_id d) same ∙ sym (conns_ring d specs)
+      ring_by_spec d conns ∙ ap (ring_id d) same ∙ sym (conns_ring [] d specs)
       ∙ has_one_ring_each specs distinct c d (fresh conn.spec) (found_fresh c conn there) ring
 
   pub one_ring : OneRingEach conns
@@ -116,11 +116,11 @@ module _ (conns : Connections) (rising : is_sorted nat_cmp conns ≡ true) (one 
 -- A STEP that leaves the ids as they are leaves the rings as they are
 module _ (m : Machine) (item : Item) (has : HasIds m.conns) (one : OneRingEach m.conns) where
   abbrev after : Connections
-  after = (built_step m item).0.conns
+  after = (step m item).0.conns
 
   pub ring_stays : ids after ≡ ids m.conns → (d c : ℕ) → ring_of d after ≡ Some c → ring_of d m.conns ≡ Some c
   ring_stays same d c ring =
-      let moved = step_moves m has built_types item in
+      let moved = step_moves m has all_types item in
       let there : ends after c ≡ Some (Some d) = ring_ends after moved.ids.rising d c ring in
       let now = mapped_some (λ (conn : Connection). ring_domid conn.spec) (find nat_cmp c after) (Some d) there in
       let before = value_of (find nat_cmp c m.conns) (sym (same_there after m.conns same c) ∙ ap is_some now.1) in

@@ -12,8 +12,8 @@ use Rattle.mark_model.specs.Stores.{KeptStore, without_transactions}
 use Rattle.conn_table.specs.Tables.{Specs, specs_of, ring_id}
 use Rattle.world_model.specs.Worlds.{ring_domid}
 use Rattle.daemon.specs.Keeps as daemon
-use Rattle.daemon.specs.Keeps.{conns_of}
-use Rattle.daemon.proofs.KeepsLemmas.{keys_map}
+use Rattle.watchers.specs.Watched.{Watched, conns_of}
+use Rattle.conn_rows.proofs.IdEntries.{keys_map}
 
 pub ring_by_spec : (d : ℕ) (conns : Connections) → ring_of d conns ≡ ring_id d (specs_of conns)
 ring_by_spec d [] = refl
@@ -31,14 +31,14 @@ specs_without : (conns : Connections) → specs_of (map (λ e. (e.0, without_tra
 specs_without [] = refl
 specs_without (e ∷ es) = ap (λ specs. (e.0, e.1.spec) ∷ specs) (specs_without es)
 
-specs_fresh : (specs : Specs) → specs_of (conns_of specs) ≡ specs
-specs_fresh [] = refl
-specs_fresh (e ∷ es) = ap (λ specs. e ∷ specs) (specs_fresh es)
+specs_watching : (specs : Specs) (watched : Watched) → specs_of (conns_of specs watched) ≡ specs
+specs_watching [] watched = refl
+specs_watching (e ∷ es) watched = ap (λ specs. e ∷ specs) (specs_watching es watched)
 
 module _ (kept : daemon.Kept) (m : Machine) (store : daemon.StandsFor kept m) where
   -- the other ends are those of the table
   pub specs_are : specs_of m.conns ≡ kept.specs
-  specs_are = sym (specs_without m.conns) ∙ ap (λ (k : KeptStore). specs_of k.machine.conns) store.same ∙ specs_fresh kept.specs
+  specs_are = sym (specs_without m.conns) ∙ ap (λ (k : KeptStore). specs_of k.machine.conns) store.same ∙ specs_watching kept.specs kept.watched
 
   pub ring_as : (d : ℕ) → ring_of d m.conns ≡ ring_id d kept.specs
   ring_as d = ring_by_spec d m.conns ∙ ap (ring_id d) specs_are

@@ -12,8 +12,7 @@ use Rattle.machine_model.specs.declared.ConnSpec.TheVariants.{Ring}
 use Rattle.machine_model.specs.Connections.{Connection, Connections, fresh}
 use Rattle.machine_model.specs.History.{unsent_after}
 use Rattle.machine_model.specs.Limits.{HasIds}
-use Rattle.machine_model.specs.Machine.{Machine, Asked, Lost, Step, Send, step_with}
-use Rattle.daemon.specs.Built.{built_step}
+use Rattle.machine_model.specs.Machine.{Machine, Asked, Lost, Step, Send, step_with, step}
 use Rattle.machine_model.proofs.Lists.{all_weaker}
 use Rattle.conn_table.specs.Tables.{ring_id}
 use Rattle.world_model.specs.Worlds.{World, Guest, Channel, Served, fresh_guest, ring_domid, with_guest, with_channel, without_channel, channel_or_empty, channel_after, channels_after, domid_if_new, with_fresh_guests, without_front, world_after, unsent_of}
@@ -24,7 +23,7 @@ use Rattle.daemon.specs.declared.answer.Door.TheVariants.{Same, Opened, Closed}
 use Rattle.daemon.specs.Keeps as daemon
 use Rattle.daemon.specs.Peers.{IsSoundTable}
 use Rattle.daemon.specs.Submits.{Takes, Drops}
-use Rattle.daemon.proofs.KeepsLemmas.{put_map, where_map, put_again, keys_map, same_there, same_rising}
+use Rattle.conn_rows.proofs.IdEntries.{put_map, where_map, put_again, keys_map, same_there, same_rising}
 use Rattle.world_core.specs.Stands.{Kept, StandsFor, inboxes_of}
 use Rattle.world_core.specs.Seats.{Follows}
 use Rattle.world_core.proofs.ChannelLemmas.{ids, unsent_stepped, inboxes_stepped, inboxes_made, inboxes_lost}
@@ -176,7 +175,7 @@ ids_positive (e ∷ es) h = (h.0, ids_positive es h.1)
 
 module _ (old new : Kept) (w : World) (at : Served) (n : ℕ) (message : List ℕ) (stands : StandsFor old w) (there : find nat_cmp at.conn w.channels ≡ Some at.channel) where
   abbrev pub stepped : Step
-  stepped = built_step w.machine (Asked at.conn message)
+  stepped = step w.machine (Asked at.conn message)
 
   abbrev pub left : List (ℕ × Channel)
   left = without_front n w at

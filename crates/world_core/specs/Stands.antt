@@ -2,7 +2,7 @@
 use Rattle.std.specs.Prelude.{◌≡◌, ◌⊎◌, ℕ, ◌≤◌, true, List, [], map, filter_map, Some, ⊤}
 use Rattle.std.specs.Ordering.{nat_cmp}
 use Rattle.std.specs.FinMap.{find, is_sorted}
-use Rattle.daemon.specs.Built.{built_types}
+use Rattle.xs_model.specs.Requests.{all_types}
 use Rattle.machine_model.specs.Connections.{ring_of}
 use Rattle.machine_model.specs.declared.Globals.{Globals}
 use Rattle.machine_model.specs.Machine.{Machine}
@@ -91,7 +91,7 @@ pub record FoundNone (old : Kept) (event : Event) (new : Kept) (said : Said) : T
 
 abbrev pub Steps : Kept → Event → Kept → Said → Type 0
 Steps old event new said =
-    FoundNone old event new said ⊎ ((w : World) → StandsFor old w → Follows new said (event_with built_types event w))
+    FoundNone old event new said ⊎ ((w : World) → StandsFor old w → Follows new said (event_with all_types event w))
 
 -- the same of what the definition does once it is known who is served
 abbrev pub Acts : Kept → ℕ → ℕ → (World → Served → Told) → Kept → Said → Type 0

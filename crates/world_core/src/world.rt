@@ -4,7 +4,7 @@ ghost use Rattle.std.specs.Prelude.{◌≡◌, ◌==◌, ◌≤◌, not, List, �
 ghost use Rattle.std.specs.Ordering.{nat_cmp};
 ghost use Rattle.std.specs.FinMap.{find, put};
 ghost use Rattle.std.specs.FinMap.Entries.{where_key};
-ghost use Rattle.daemon.specs.Built.{built_types};
+ghost use Rattle.xs_model.specs.Requests.{all_types};
 ghost use Rattle.world_model.specs.Rings.{put_all, with_reply, with_error};
 ghost use Rattle.world_model.specs.Fronts.{front};
 ghost use Rattle.world_model.specs.Worlds.{Guest as model_guest, Send as SendEvent, Put as PutEvent, Intake as IntakeEvent, Do as DoEvent, Out as OutEvent, Take as TakeEvent, Poke as PokeEvent, ShowPage, intake_ring, do_message, dropped};
@@ -289,7 +289,7 @@ impl World {
     /// beforehand; a connection that goes takes its inbox with it, and the page stays.
     fn submit(&mut self, conn: u32, domid: u16, len: usize) -> Said
         requires { IsInFront self.old.inboxes conn len }
-        ensures { ActsOrNone self.old domid conn (do_message built_types len) self.new result }
+        ensures { ActsOrNone self.old domid conn (do_message all_types len) self.new result }
     {
         if self.seats.make_room(self.alloc).is_err() {
             return Said::NoMemory;

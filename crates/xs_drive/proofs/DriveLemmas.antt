@@ -3,7 +3,7 @@ use Rattle.std.proofs.Common.{◌≡◌, ℕ, ◌≤◌, true, false, List, [], 
 use Rattle.std.proofs.lemmas.Bool.{false≢true}
 use Rattle.std.proofs.lemmas.List.{append-nil}
 use Rattle.std.specs.Io.KnownBytes.{Consumes, IsAtEnd}
-use Rattle.daemon.specs.Built.{built_types}
+use Rattle.xs_model.specs.Requests.{all_types}
 use Rattle.world_model.specs.declared.LineKind.{LineKind}
 use Rattle.world_model.specs.Scripts.{Script, LineFault, script_of}
 use Rattle.world_model.specs.Transcripts.{script_lines, transcript_of}
@@ -51,9 +51,9 @@ not_faulty text line kind is playable = absurd (ok_or_err (sym playable.reads �
     ok_or_err e = cc
 
 -- THE TRANSCRIPT of a text that is played
-pub transcript_is : (slice text : List ℕ) (script : Script) → slice ≡ text → script_of slice ≡ Ok script → script_lines built_types script [] ≡ transcript text
+pub transcript_is : (slice text : List ℕ) (script : Script) → slice ≡ text → script_of slice ≡ Ok script → script_lines all_types script [] ≡ transcript text
 transcript_is slice text script whole reads =
-    sym (ap (λ r. transcript_of built_types r []) (ap script_of (sym whole) ∙ reads))
+    sym (ap (λ r. transcript_of all_types r []) (ap script_of (sym whole) ∙ reads))
 
 pub hides : (text : List ℕ) → IsPlayable text → HidesHandovers text
-hides text playable = transcript_left built_types text playable.script [] playable.reads
+hides text playable = transcript_left all_types text playable.script [] playable.reads

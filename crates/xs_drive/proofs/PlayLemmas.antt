@@ -3,7 +3,7 @@ use Rattle.std.proofs.Common.{◌≡◌, ℕ, zero, suc, ◌+◌, ◌<◌, ◌�
 use Rattle.std.proofs.lemmas.List.{append-nil, take-append-drop, drop_all, drop_more, length-map, get_or-map}
 use Rattle.std.proofs.lemmas.Bool.{false≢true}
 use Rattle.std.specs.List.{AllByRecursion}
-use Rattle.daemon.specs.Built.{built_types}
+use Rattle.xs_model.specs.Requests.{all_types}
 use Rattle.world_model.specs.declared.Said.{Said}
 use Rattle.world_model.specs.declared.Said.TheVariants as said
 use Rattle.world_model.specs.Worlds.{World, Event, Send, Put, Intake, Do, Out, Take, Poke, ShowPage, Handover, event_with}
@@ -61,14 +61,14 @@ same_words said.RefusedFault t u h = refl
 same_words (said.RefusedChanged at put got) t u h = refl
 same_words said.NoMemory t u h = refl
 
-line_is : (w : World) (e : Event) (new : Kept) (s : Said) → IsBuilt e → Follows new s (event_with built_types e w) → said_line e s new.taken ≡ line_in w e
+line_is : (w : World) (e : Event) (new : Kept) (s : Said) → IsBuilt e → Follows new s (event_with all_types e w) → said_line e s new.taken ≡ line_in w e
 line_is w e new s built follows =
-    let told = event_with built_types e w in
+    let told = event_with all_types e w in
     ap (λ x. spaced (event_words e ++ x) ++ 10 ∷ []) (same_words s new.taken told.taken follows.taken)
     ∙ ap (λ x. said_line e x told.taken) (follows.says ∙ sym (said_plain e told.said built))
 
 -- ONE STEP and its line
-follows_of : (old new : Kept) (e : Event) (s : Said) (w : World) → (s ≡ said.NoMemory → ⊥) → Steps old e new s → StandsFor old w → Follows new s (event_with built_types e w)
+follows_of : (old new : Kept) (e : Event) (s : Said) (w : World) → (s ≡ said.NoMemory → ⊥) → Steps old e new s → StandsFor old w → Follows new s (event_with all_types e w)
 follows_of old new e s w found (inl none) stands = absurd (found none.none)
 follows_of old new e s w found (inr steps) stands = steps w stands
 
@@ -90,8 +90,8 @@ built_at [] i d h lt = absurd (omega arith)
 built_at (e ∷ es) zero d h lt = h.0
 built_at (e ∷ es) (suc i) d h lt = built_at es i d h.1 (le_of_suc-le-suc lt)
 
-lines_more : (w : World) (e : Event) (es : List Event) → lines_from built_types w (e ∷ es) [] ≡ line_in w e ++ lines_from built_types (event_with built_types e w).world es []
-lines_more w e es = ap (λ s. line_in w e ++ lines_from built_types (event_with built_types e w).world es s) (none_left_to_say e)
+lines_more : (w : World) (e : Event) (es : List Event) → lines_from all_types w (e ∷ es) [] ≡ line_in w e ++ lines_from all_types (event_with all_types e w).world es []
+lines_more w e es = ap (λ s. line_in w e ++ lines_from all_types (event_with all_types e w).world es s) (none_left_to_say e)
 
 pub split_at : (es : List CodeEvent) (i : ℕ) (e : CodeEvent) → i < length es → e ≡ get_or es i e → drop i (map event_view es) ≡ event_view e ∷ drop (i + 1) (map event_view es)
 split_at es i e lt is =
@@ -102,18 +102,18 @@ split_at es i e lt is =
 pub record Left (world : Kept) (lines : List ℕ) (rest : List Event) (old new : Option (List ℕ)) (text : List ℕ) : Type 0 where
   pub w : World
   pub stands : StandsFor world w
-  pub all : AppendsBut old new text (lines ++ lines_from built_types w rest [])
+  pub all : AppendsBut old new text (lines ++ lines_from all_types w rest [])
 
-line_first : (w : World) (es : List CodeEvent) (i : ℕ) (e : CodeEvent) → i < length es → e ≡ get_or es i e → lines_from built_types w (drop i (map event_view es)) [] ≡ line_in w (event_view e) ++ lines_from built_types (event_with built_types (event_view e) w).world (drop (i + 1) (map event_view es)) []
+line_first : (w : World) (es : List CodeEvent) (i : ℕ) (e : CodeEvent) → i < length es → e ≡ get_or es i e → lines_from all_types w (drop i (map event_view es)) [] ≡ line_in w (event_view e) ++ lines_from all_types (event_with all_types (event_view e) w).world (drop (i + 1) (map event_view es)) []
 line_first w es i e lt is =
-    ap (λ rest. lines_from built_types w rest []) (split_at es i e lt is) ∙ lines_more w (event_view e) (drop (i + 1) (map event_view es))
+    ap (λ rest. lines_from all_types w rest []) (split_at es i e lt is) ∙ lines_more w (event_view e) (drop (i + 1) (map event_view es))
 
 pub one_more : (world next : Kept) (lines pushed : List ℕ) (es : List CodeEvent) (i : ℕ) (e : CodeEvent) (old new : Option (List ℕ)) (text : List ℕ) → i < length es → e ≡ get_or es i e → Left world lines (drop i (map event_view es)) old new text → Prints world (event_view e) lines next pushed → Left next pushed (drop (i + 1) (map event_view es)) old new text
 one_more world next lines pushed es i e old new text lt is left prints =
     let printed = prints left.w left.stands in
-    let w_next = (event_with built_types (event_view e) left.w).world in
-    let rest = lines_from built_types w_next (drop (i + 1) (map event_view es)) [] in
-    let same : lines ++ lines_from built_types left.w (drop i (map event_view es)) [] ≡ pushed ++ rest =
+    let w_next = (event_with all_types (event_view e) left.w).world in
+    let rest = lines_from all_types w_next (drop (i + 1) (map event_view es)) [] in
+    let same : lines ++ lines_from all_types left.w (drop i (map event_view es)) [] ≡ pushed ++ rest =
     ap (λ l. lines ++ l) (line_first left.w es i e lt is) ∙ sym (append_assoc lines (line_in left.w (event_view e)) rest) ∙ ap (λ l. l ++ rest) (sym printed.printed)
     in
     record { w = w_next; stands = printed.stands; all = subst (λ (l : List ℕ). AppendsBut old new text l) same left.all }
@@ -127,8 +127,8 @@ pub stopped : (world : Kept) (lines pushed : List ℕ) (es : List CodeEvent) (i 
 stopped world lines pushed es i e old new text lt is left front =
     let part = front left.w left.stands in
     let line = line_in left.w (event_view e) in
-    let rest = lines_from built_types (event_with built_types (event_view e) left.w).world (drop (i + 1) (map event_view es)) [] in
-    let same : lines ++ lines_from built_types left.w (drop i (map event_view es)) [] ≡ pushed ++ (drop part.0 line ++ rest) =
+    let rest = lines_from all_types (event_with all_types (event_view e) left.w).world (drop (i + 1) (map event_view es)) [] in
+    let same : lines ++ lines_from all_types left.w (drop i (map event_view es)) [] ≡ pushed ++ (drop part.0 line ++ rest) =
     ap (λ l. lines ++ l) (line_first left.w es i e lt is)
     ∙ ap (λ l. lines ++ (l ++ rest)) (sym (take-append-drop part.0 line))
     ∙ ap (λ l. lines ++ l) (append_assoc (take part.0 line) (drop part.0 line) rest)
@@ -140,7 +140,7 @@ stopped world lines pushed es i e old new text lt is left front =
 pub all_played : (world : Kept) (lines : List ℕ) (es : List CodeEvent) (i : ℕ) (old new : Option (List ℕ)) (text : List ℕ) → length es ≤ i → Left world lines (drop i (map event_view es)) old new text → AppendsBut old new text lines
 all_played world lines es i old new text le left =
     let nothing : drop i (map event_view es) ≡ [] = drop_all i (map event_view es) (omega (arith, length-map es event_view)) in
-    subst (λ (l : List ℕ). AppendsBut old new text l) (ap (λ rest. lines ++ lines_from built_types left.w rest []) nothing ∙ append-nil lines) left.all
+    subst (λ (l : List ℕ). AppendsBut old new text l) (ap (λ rest. lines ++ lines_from all_types left.w rest []) nothing ∙ append-nil lines) left.all
 
 -- what a call says that was refused, or was not
 pub of_is_err : {T E : Type 0} (r : Result T E) (b : Bool) (P : Type 0) → b ≡ is_err r → b ≡ true → OnErr r P → P

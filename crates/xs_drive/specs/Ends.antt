@@ -3,7 +3,7 @@ use Rattle.std.specs.Prelude.{◌≡◌, ℕ, ◌≤◌, Bool, true, false, ◌|
 use Rattle.std.specs.List.{list_any}
 use Rattle.std.specs.Str.{bytes_eq}
 use Rattle.program_io.specs.Ends.{input_limit}
-use Rattle.daemon.specs.Built.{built_types}
+use Rattle.xs_model.specs.Requests.{all_types}
 use Rattle.world_model.specs.declared.LineKind.{LineKind}
 use Rattle.world_model.specs.Worlds.{Event, Send, Put, Intake, Do, Out, Take, Poke, ShowPage, Handover}
 use Rattle.world_model.specs.Scripts.{Script, script_of}
@@ -52,7 +52,7 @@ pub record IsFaulty (text : List ℕ) (line : ℕ) (kind : LineKind) : Type 0 wh
 
 -- its transcript; a script that is played has no handover, so none says anything
 abbrev pub transcript : List ℕ → List ℕ
-transcript text = transcript_with built_types text []
+transcript text = transcript_with all_types text []
 
 -- without the lines that tell of handovers it is the transcript of the script without them
 abbrev pub HidesHandovers : List ℕ → Type 0

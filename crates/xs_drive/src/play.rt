@@ -4,7 +4,7 @@ ghost use Rattle.std.specs.Prelude.{◌≡◌, List, [], map, OnOk, OnErr, IfOk}
 ghost use Rattle.std.specs.Io.KnownBytes.{Appends};
 ghost use Rattle.std.specs.List.{AllByRecursion};
 ghost use Rattle.xs_base.specs.Faults.{NeverFalls, Rose};
-ghost use Rattle.daemon.specs.Built.{built_types};
+ghost use Rattle.xs_model.specs.Requests.{all_types};
 ghost use Rattle.world_model.specs.Worlds.{new_world};
 ghost use Rattle.world_model.specs.Transcripts.{script_lines, with_domains};
 ghost use Rattle.guest_script.specs.Views.{domain_view, event_view, script_view};
@@ -59,8 +59,8 @@ pub fn play<K: Sink, V: Vault>(
 ) -> Result<(), PlayFault>
     requires events { AllByRecursion IsBuilt (map event_view script.now.events) }
     requires domains { AllByRecursion IsSoundDomain (map domain_view script.now.domains) }
-    ensures ok { OnOk result (Appends (K.written out.old) (K.written out.new) (script_lines built_types (script_view script.now) [])) }
-    ensures front { AppendsFront (K.written out.old) (K.written out.new) (script_lines built_types (script_view script.now) []) }
+    ensures ok { OnOk result (Appends (K.written out.old) (K.written out.new) (script_lines all_types (script_view script.now) [])) }
+    ensures front { AppendsFront (K.written out.old) (K.written out.new) (script_lines all_types (script_view script.now) []) }
     ensures failed { result ≡ Err PlayFault.WriteFault → Rose (K.faults out.old) (K.faults out.new) }
     ensures counts { NeverFalls (K.faults out.old) (K.faults out.new) }
     ensures vault { vault.new ≡ vault.old }

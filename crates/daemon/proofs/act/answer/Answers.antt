@@ -1,17 +1,17 @@
-use Rattle.std.proofs.Common.{◌≡◌, ◌≤◌, ℕ, true, false, Ok, Err, refl, sym, ap, subst, ◌∙◌}
+use Rattle.std.proofs.Common.{◌≡◌, ◌≤◌, ℕ, Ok, Err, sym, ap, subst, ◌∙◌}
 use Rattle.std.proofs.lemmas.Result.{IfOk-weaker}
 use Rattle.xs_model.specs.declared.message.WireErr.TheVariants.{Enosys, Einval}
 use Rattle.xs_model.specs.Requests.{request_of, all_types}
-use Rattle.machine_model.specs.Connections.{fresh, caller_of}
-use Rattle.daemon.specs.Built.{built_types}
+use Rattle.machine_model.specs.Connections.{caller_of}
 use Rattle.mark_model.specs.Stores.{KeptStore, kept_act_or_refuse}
 use Rattle.wire_codec.specs.declared.request.RequestErr.{RequestErr}
 use Rattle.wire_codec.specs.Codec.{IsRequest, request_view}
+use Rattle.daemon.specs.Asks.{WatchesInForm}
 use Rattle.daemon.specs.Keeps.{store_of}
-use Rattle.daemon.specs.Served.{is_on_watches}
-use Rattle.daemon.specs.Acts.{kept_by, Did}
+use Rattle.daemon.specs.Peers.{conn_in}
+use Rattle.daemon.specs.Acts.{kept_by, IsAnswered}
 use Rattle.daemon.proofs.ActLemmas.{asker_bound, refused_request}
-use Rattle.daemon.proofs.ServedLemmas.{read_is_built, read_is_served, watches_are_unserved}
+use Rattle.daemon.proofs.AskLemmas.{read_in_form}
 use Rattle.daemon.proofs.act.answer.Goals as goal
 
 pub read_request-requires : goal.read_request-requires
@@ -23,39 +23,27 @@ returns-in-Err-Enosys-clause-ok c =
     let head = c.args.head in
     let payload = c.args.payload.now in
     let domid = c.domid.result in
-    let beside : is_on_watches head.kind ≡ false = sym c.is_on_watches.ensures ∙ c.if-is_on_watches.false in
-    let asked : request_of built_types head.kind payload domid ≡ Err Enosys =
-    sym (read_is_built head.kind payload domid beside)
-    ∙ subst (λ (e : RequestErr). IsRequest (Err e) (request_of all_types head.kind payload domid)) c.in-Err-Enosys.field-0-is c.in-Err-Enosys.ensures.asked
+    let asked : request_of all_types head.kind payload domid ≡ Err Enosys =
+    subst (λ (e : RequestErr). IsRequest (Err e) (request_of all_types head.kind payload domid)) c.in-Err-Enosys.field-0-is c.in-Err-Enosys.ensures.asked
     in
-    refused_request c.args.asker.conn c.args.asker.spec head.tx_id head.kind payload domid Enosys c.args.tree.now c.args.peers.now c.refused-in-Err-Enosys.result
-    c.requires.whole.counter c.requires.whole.sound c.refused-in-Err-Enosys.ensures.reply c.refused-in-Err-Enosys.ensures.door c.domid.ensures asked
+    refused_request c.args.asker.conn c.args.asker.spec head.tx_id head.kind payload domid Enosys c.args.tree.now c.args.peers.now c.refused.result
+    c.requires.whole.counter c.requires.whole.sound c.requires.may c.refused.ensures.reply c.refused.ensures.door c.refused.ensures.owed c.domid.ensures asked
 
 pub returns-in-Err-Einval-clause-ok : goal.returns-in-Err-Einval-clause-ok
 returns-in-Err-Einval-clause-ok c =
     let head = c.args.head in
     let payload = c.args.payload.now in
     let domid = c.domid.result in
-    let beside : is_on_watches head.kind ≡ false = sym c.is_on_watches.ensures ∙ c.if-is_on_watches.false in
-    let asked : request_of built_types head.kind payload domid ≡ Err Einval =
-    sym (read_is_built head.kind payload domid beside)
-    ∙ subst (λ (e : RequestErr). IsRequest (Err e) (request_of all_types head.kind payload domid)) c.in-Err-Einval.field-0-is c.in-Err-Einval.ensures.asked
+    let asked : request_of all_types head.kind payload domid ≡ Err Einval =
+    subst (λ (e : RequestErr). IsRequest (Err e) (request_of all_types head.kind payload domid)) c.in-Err-Einval.field-0-is c.in-Err-Einval.ensures.asked
     in
     refused_request c.args.asker.conn c.args.asker.spec head.tx_id head.kind payload domid Einval c.args.tree.now c.args.peers.now c.refused-in-Err-Einval.result
-    c.requires.whole.counter c.requires.whole.sound c.refused-in-Err-Einval.ensures.reply c.refused-in-Err-Einval.ensures.door c.domid.ensures asked
+    c.requires.whole.counter c.requires.whole.sound c.requires.may c.refused-in-Err-Einval.ensures.reply c.refused-in-Err-Einval.ensures.door c.refused-in-Err-Einval.ensures.owed c.domid.ensures asked
 
-pub returns-then-is_on_watches-clause-ok : goal.returns-then-is_on_watches-clause-ok
-returns-then-is_on_watches-clause-ok c =
-    let head = c.args.head in
-    let payload = c.args.payload.now in
-    let domid = (caller_of c.args.asker.spec).domid in
-    refused_request c.args.asker.conn c.args.asker.spec head.tx_id head.kind payload domid Enosys c.args.tree.now c.args.peers.now c.refused.result
-    c.requires.whole.counter c.requires.whole.sound c.refused.ensures.reply c.refused.ensures.door refl
-    (watches_are_unserved head.kind payload domid (sym c.is_on_watches.ensures ∙ c.if-is_on_watches.true))
-
-pub act-requires-clause-served : goal.act-requires-clause-served
-act-requires-clause-served c =
-    read_is_served c.args.head.kind c.args.payload.now c.domid.result (sym c.is_on_watches.ensures ∙ c.if-is_on_watches.false) (request_view c.in-Ok.request) c.in-Ok.ensures.asked
+pub act-requires-clause-watch : goal.act-requires-clause-watch
+act-requires-clause-watch c =
+    subst (λ (d : ℕ). WatchesInForm d (request_view c.in-Ok.request)) c.domid.ensures
+    (read_in_form c.domid.result c.args.head.kind c.args.payload.now (request_view c.in-Ok.request) c.in-Ok.ensures.asked)
 
 pub returns-in-Ok-clause-ok : goal.returns-in-Ok-clause-ok
 returns-in-Ok-clause-ok c =
@@ -65,12 +53,10 @@ returns-in-Ok-clause-ok c =
     let payload = c.args.payload.now in
     let asker = c.args.asker in
     let k : KeptStore = store_of (kept_by tree peers) in
-    let asked : request_of built_types head.kind payload (caller_of asker.spec).domid ≡ Ok (request_view c.in-Ok.request) =
-    ap (request_of built_types head.kind payload) (sym c.domid.ensures)
-    ∙ sym (read_is_built head.kind payload c.domid.result (sym c.is_on_watches.ensures ∙ c.if-is_on_watches.false))
-    ∙ c.in-Ok.ensures.asked
+    let asked : request_of all_types head.kind payload (caller_of asker.spec).domid ≡ Ok (request_view c.in-Ok.request) =
+    ap (request_of all_types head.kind payload) (sym c.domid.ensures) ∙ c.in-Ok.ensures.asked
     in
-    IfOk-weaker c.act.result _ _ (λ answer did.
-    subst (λ done. Did asker.conn tree peers done answer c.act.new.tree c.act.new.peers)
-    (sym (ap (kept_act_or_refuse k asker.conn (fresh asker.spec) head.tx_id) asked)) did)
+    IfOk-weaker c.act.result _ _ (λ answered did.
+    subst (λ done. IsAnswered asker.conn tree peers done answered c.act.new.tree c.act.new.peers)
+    (sym (ap (kept_act_or_refuse k asker.conn (conn_in peers asker.conn asker.spec) head.tx_id) asked)) did)
     c.act.ensures.ok

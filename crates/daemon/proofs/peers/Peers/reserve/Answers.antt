@@ -1,11 +1,11 @@
 use Rattle.std.proofs.Common.{refl, subst}
 use Rattle.daemon.specs.Peers.{Connected, IsSound}
-use Rattle.daemon.proofs.PeerLemmas.{sound_same}
+use Rattle.daemon.proofs.PeerLemmas.{connected, sound_same}
 use Rattle.daemon.proofs.peers.Peers.reserve.Goals as goal
 
 pub returns-clause-sound : goal.returns-clause-sound
 returns-clause-sound c =
-    let old : Connected = record { specs = c.self.inside.conns; queues = c.self.inside.rows.queues; txns = c.self.inside.rows.txns } in
-    let new : Connected = record { specs = c.self.inside.conns; queues = c.reserve_bytes.new.self.queues; txns = c.reserve_bytes.new.self.txns } in
+    let old : Connected = connected c.self.inside.conns c.self.inside.watchers c.self.inside.rows in
+    let new : Connected = connected c.self.inside.conns c.self.inside.watchers c.reserve_bytes.new.self in
     subst (λ (k : Connected). IsSound k → IsSound new) c.self.view_is
-    (λ sound. sound_same old sound new refl c.reserve_bytes.ensures.txns c.reserve_bytes.ensures.bytes)
+    (λ sound. sound_same old sound new refl refl c.reserve_bytes.ensures.txns c.reserve_bytes.ensures.bytes)

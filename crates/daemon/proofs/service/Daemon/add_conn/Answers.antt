@@ -3,7 +3,7 @@ use Rattle.conn_table.specs.Tables.{is_socket, count_sockets}
 use Rattle.daemon.specs.Keeps.{Kept}
 use Rattle.daemon.specs.Acts.{kept_by}
 use Rattle.daemon.specs.Submits.{Adds}
-use Rattle.daemon.proofs.SubmitLemmas.{adds, with_all}
+use Rattle.daemon.proofs.SubmitLemmas.{adds, with_all, both, not_there}
 use Rattle.daemon.proofs.WholeLemmas.{whole_added}
 use Rattle.daemon.proofs.service.Daemon.add_conn.Goals as goal
 
@@ -13,8 +13,8 @@ returns-clause-ok c =
     let peers = c.self.inside.peers in
     let sockets : is_socket c.args.spec ≡ true → count_sockets peers.specs < 65536 = subst (λ (k : Kept). is_socket c.args.spec ≡ true → count_sockets k.specs < 65536) (sym c.self.view_is) c.requires.sockets in
     subst (λ (k : Kept). OnOk c.add.result (Adds k c.args.id c.args.spec (kept_by tree c.add.new.self))) c.self.view_is
-    (with_all c.add.result c.add.ensures.specs c.add.ensures.bytes c.add.ensures.txns c.add.ensures.sound
-    (λ specs bytes txns sound. adds tree peers c.add.new.self c.args.id c.args.spec c.requires.id specs bytes txns (sound c.self.invariant.sound c.requires.id c.requires.bounds sockets)))
+    (with_all c.add.result (both _ _ c.add.result (not_there c.add.result c.args.id c.args.spec peers.specs c.add.ensures.taken) c.add.ensures.specs) c.add.ensures.bytes c.add.ensures.txns c.add.ensures.sound
+    (λ specs bytes txns sound. adds tree peers c.add.new.self c.args.id c.args.spec c.requires.id c.self.invariant.sound specs.0 specs.1 c.add.ensures.watched bytes txns (sound c.self.invariant.sound c.requires.id c.requires.bounds sockets)))
 
 pub invariant_of-self : goal.invariant_of-self
 invariant_of-self c =

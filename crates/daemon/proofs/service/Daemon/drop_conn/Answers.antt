@@ -19,7 +19,7 @@ returns-clause-after c =
     let tree = c.self.inside.tree in
     let peers = c.self.inside.peers in
     subst (λ (k : Kept). Drops k c.args.conn (kept_by tree c.remove.new.self)) c.self.view_is
-    (drops tree peers c.remove.new.self c.args.conn c.remove.ensures.specs c.remove.ensures.queues c.remove.ensures.txns (c.remove.ensures.sound c.self.invariant.sound))
+    (drops tree peers c.remove.new.self c.args.conn c.self.invariant.sound c.remove.ensures.specs c.remove.ensures.queues c.remove.ensures.txns c.remove.ensures.watched (c.remove.ensures.sound c.self.invariant.sound))
 
 pub invariant_of-self : goal.invariant_of-self
 invariant_of-self c =

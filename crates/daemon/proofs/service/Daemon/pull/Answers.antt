@@ -18,9 +18,9 @@ returns c =
     subst (λ (k : Kept). Pulled k conn into (kept_by tree new) into_new c.match-pull.result) c.self.view_is
     (elim c.match-pull.branch [
       | in-None w ↦ subst (λ (r : Pull). Pulled (kept_by tree old) conn into (kept_by tree new) into_new r) (sym w.result-is)
-          (pulled_none tree old new conn into into_new w.in-None.ensures.specs c.pull.ensures.txns w.in-None.ensures.pulled)
+          (pulled_none tree old new conn into into_new w.in-None.ensures.specs c.pull.ensures.watched c.pull.ensures.txns w.in-None.ensures.pulled)
       | in-Some-eq0 w ↦ subst (λ (r : Pull). Pulled (kept_by tree old) conn into (kept_by tree new) into_new r) (sym w.result-is)
-          (pulled_nothing tree old new conn into into_new w.in-Some-eq0.field-0 c.self.invariant.sound c.requires w.in-Some-eq0.field-0-test w.in-Some-eq0.ensures.specs c.pull.ensures.txns w.in-Some-eq0.ensures.pulled)
+          (pulled_nothing tree old new conn into into_new w.in-Some-eq0.field-0 c.self.invariant.sound c.requires w.in-Some-eq0.field-0-test w.in-Some-eq0.ensures.specs c.pull.ensures.watched c.pull.ensures.txns w.in-Some-eq0.ensures.pulled)
       | in-Some w ↦ subst (λ (r : Pull). Pulled (kept_by tree old) conn into (kept_by tree new) into_new r) (sym w.result-is)
-          (pulled_some tree old new conn into into_new w.in-Some.count (c.pull.ensures.sound c.self.invariant.sound) (positive w.in-Some.count w.in-Some.count-test.1) w.in-Some.ensures.specs c.pull.ensures.txns w.in-Some.ensures.pulled)
+          (pulled_some tree old new conn into into_new w.in-Some.count (c.pull.ensures.sound c.self.invariant.sound) (positive w.in-Some.count w.in-Some.count-test.1) w.in-Some.ensures.specs c.pull.ensures.watched c.pull.ensures.txns w.in-Some.ensures.pulled)
     ])

@@ -3,7 +3,7 @@ use Rattle.std.specs.Ordering.{nat_cmp}
 use Rattle.std.specs.FinMap.{find}
 use Rattle.xs_model.proofs.Maps.{from_Some}
 use Rattle.daemon.specs.Keeps.{Kept}
-use Rattle.daemon.specs.Peers.{unsent_of}
+use Rattle.conn_rows.specs.Queued.{unsent_of}
 use Rattle.daemon.specs.Submits.{Submits, IsHeld}
 use Rattle.daemon.specs.declared.answer.Submit.TheVariants.{Gone}
 use Rattle.daemon.proofs.SubmitLemmas.{absent_unsent, unsent_count, uncounted, count_there}

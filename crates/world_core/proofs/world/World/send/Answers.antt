@@ -1,7 +1,7 @@
 use Rattle.std.proofs.Common.{◌≡◌, inl, refl, sym, ap, ◌∙◌}
 use Rattle.std.specs.Ordering.{nat_cmp}
 use Rattle.std.specs.FinMap.{put}
-use Rattle.daemon.proofs.KeepsLemmas.{put_again}
+use Rattle.conn_rows.proofs.IdEntries.{put_again}
 use Rattle.world_core.proofs.DoLemmas.{same_kept, of_is_err}
 use Rattle.world_core.proofs.world.World.send.Goals as goal
 

@@ -1,5 +1,5 @@
 use Rattle.std.proofs.Common.{◌≡◌, refl, inl, inr, sym, ap, subst, ◌∙◌, take}
-use Rattle.daemon.specs.Built.{built_types}
+use Rattle.xs_model.specs.Requests.{all_types}
 use Rattle.world_model.specs.declared.Said.TheVariants as said
 use Rattle.world_model.specs.Worlds.{do_message}
 use Rattle.id_map.specs.Maps.{Map}
@@ -22,8 +22,8 @@ returns-in_default c =
     let taken = take c.self.inside.count c.self.inside.bytes in
     let mid = kept_with c.self.inside.daemon c.make_room.new.self taken in
     let is : mid ≡ c.args.self.now = same_seats c.self.inside.daemon c.self.inside.seats c.make_room.new.self taken c.make_room.ensures.same ∙ c.self.view_is in
-    subst (λ k. ActsOrNone k c.args.domid c.args.conn (do_message built_types c.args.len) mid said.Gone) is
-    (inr (acts_without_inbox mid mid c.args.domid c.args.conn (do_message built_types c.args.len) said.Gone (sym c.in_default.ensures.value)))
+    subst (λ k. ActsOrNone k c.args.domid c.args.conn (do_message all_types c.args.len) mid said.Gone) is
+    (inr (acts_without_inbox mid mid c.args.domid c.args.conn (do_message all_types c.args.len) said.Gone (sym c.in_default.ensures.value)))
 
 pub returns-in-Ok-Done : goal.returns-in-Ok-Done
 returns-in-Ok-Done c =
@@ -32,7 +32,7 @@ returns-in-Ok-Done c =
     let new = kept_with c.submit.new.self c.follow.new.self taken in
     let is : mid ≡ c.args.self.now = same_seats c.self.inside.daemon c.self.inside.seats c.make_room.new.self taken c.make_room.ensures.same ∙ c.self.view_is in
     let takes = subst (Submits c.self.inside.daemon c.args.conn (take c.args.len c.bytes.result.now) c.submit.new.self) c.in-Ok-Done.field-0-is c.in-Ok-Done.ensures.ok in
-    subst (λ k. ActsOrNone k c.args.domid c.args.conn (do_message built_types c.args.len) new said.Done) is
+    subst (λ k. ActsOrNone k c.args.domid c.args.conn (do_message all_types c.args.len) new said.Done) is
     (inr (acts_done mid new c.args.domid c.args.conn c.args.len c.in-Some.inbox.now (take c.args.len c.bytes.result.now) (sym c.in-Some.ensures.value) (ap (take c.args.len) c.bytes.ensures)
     c.in-Ok-Done.door takes c.follow.ensures.sound (tables_of c.skip_front.new.self) c.skip_front.ensures.inbox (ap (λ (m : Map _). m.entries) c.skip_front.ensures.guests) (ap (λ (m : Map _). m.entries) c.skip_front.ensures.rings) c.follow.ensures.follows))
 
@@ -43,7 +43,7 @@ returns-in-Ok-Held c =
     let new = kept_with c.submit.new.self c.make_room.new.self taken in
     let is : mid ≡ c.args.self.now = same_seats c.self.inside.daemon c.self.inside.seats c.make_room.new.self taken c.make_room.ensures.same ∙ c.self.view_is in
     let holds = subst (Submits c.self.inside.daemon c.args.conn (take c.args.len c.bytes.result.now) c.submit.new.self) c.in-Ok-Held.field-0-is c.in-Ok-Held.ensures.ok in
-    subst (λ k. ActsOrNone k c.args.domid c.args.conn (do_message built_types c.args.len) new (said.Held c.in-Ok-Held.unsent)) is
+    subst (λ k. ActsOrNone k c.args.domid c.args.conn (do_message all_types c.args.len) new (said.Held c.in-Ok-Held.unsent)) is
     (inr (acts_held mid new c.args.domid c.args.conn c.args.len c.in-Some.inbox.now (take c.args.len c.bytes.result.now) (sym c.in-Some.ensures.value) (ap (take c.args.len) c.bytes.ensures)
     c.submit.new.self c.in-Ok-Held.unsent holds (same_kept mid new holds.same refl refl refl refl)))
 
@@ -54,7 +54,7 @@ returns-in-Ok-Crowded c =
     let new = kept_with c.submit.new.self c.make_room.new.self taken in
     let is : mid ≡ c.args.self.now = same_seats c.self.inside.daemon c.self.inside.seats c.make_room.new.self taken c.make_room.ensures.same ∙ c.self.view_is in
     let crowds = subst (Submits c.self.inside.daemon c.args.conn (take c.args.len c.bytes.result.now) c.submit.new.self) c.in-Ok-Crowded.field-0-is c.in-Ok-Crowded.ensures.ok in
-    subst (λ k. ActsOrNone k c.args.domid c.args.conn (do_message built_types c.args.len) new (said.Crowded c.in-Ok-Crowded.conn)) is
+    subst (λ k. ActsOrNone k c.args.domid c.args.conn (do_message all_types c.args.len) new (said.Crowded c.in-Ok-Crowded.conn)) is
     (inr (λ w at stands h conn. acts_crowded mid new c.args.domid c.args.conn c.args.len c.in-Some.inbox.now (take c.args.len c.bytes.result.now) (sym c.in-Some.ensures.value) (ap (take c.args.len) c.bytes.ensures)
     c.submit.new.self c.in-Ok-Crowded.conn crowds (same_kept mid new (crowds w.machine stands.store).same refl refl refl refl) w at stands h conn))
 
@@ -65,5 +65,5 @@ returns-in-Ok-Gone c =
     let new = kept_with c.submit.new.self c.make_room.new.self taken in
     let is : mid ≡ c.args.self.now = same_seats c.self.inside.daemon c.self.inside.seats c.make_room.new.self taken c.make_room.ensures.same ∙ c.self.view_is in
     let gone = subst (Submits c.self.inside.daemon c.args.conn (take c.args.len c.bytes.result.now) c.submit.new.self) c.in-Ok-Gone.field-0-is c.in-Ok-Gone.ensures.ok in
-    subst (λ k. ActsOrNone k c.args.domid c.args.conn (do_message built_types c.args.len) new said.Gone) is
+    subst (λ k. ActsOrNone k c.args.domid c.args.conn (do_message all_types c.args.len) new said.Gone) is
     (inr (acts_gone mid new c.args.domid c.args.conn c.args.len c.in-Some.inbox.now (take c.args.len c.bytes.result.now) (sym c.in-Some.ensures.value) (ap (take c.args.len) c.bytes.ensures) said.Gone gone.0))

@@ -5,7 +5,7 @@ use Rattle.world_model.specs.declared.Said.TheVariants as said
 use Rattle.world_model.specs.Worlds.{intake_ring, dropped}
 use Rattle.world_core.specs.Stands.{Kept, Acts}
 use Rattle.world_core.proofs.DoLemmas.{acts_without_inbox, same_kept}
-use Rattle.daemon.proofs.KeepsLemmas.{put_again}
+use Rattle.conn_rows.proofs.IdEntries.{put_again}
 use Rattle.world_core.proofs.InLemmas.{took_in, dropped_in}
 use Rattle.world_core.proofs.world.World.take_in.Goals as goal
 

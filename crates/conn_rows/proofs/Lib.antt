@@ -1,0 +1,12 @@
+pub mod IdEntries
+pub mod UnsentBytes
+pub mod WalkLemmas
+pub mod LeastFree
+pub mod NoteLemmas
+pub mod RowLemmas
+pub mod NotedRows
+pub mod BusyLemmas
+pub mod ReceiverLemmas
+pub mod CrowdLemmas
+pub mod SendLemmas
+pub mod SeenLemmas

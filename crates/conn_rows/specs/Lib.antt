@@ -1,0 +1,4 @@
+pub mod Queued
+pub mod Sending
+pub mod Rows
+pub mod Receivers
