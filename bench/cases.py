@@ -3,7 +3,7 @@
 import struct
 import sys
 
-DIRECTORY, READ, START, END, INTRODUCE, RELEASE, WRITE, MKDIR, RM, SET_PERMS = 1, 2, 6, 7, 8, 9, 11, 12, 13, 14
+DIRECTORY, READ, WATCH, START, END, INTRODUCE, RELEASE, WRITE, MKDIR, RM, SET_PERMS = 1, 2, 4, 6, 7, 8, 9, 11, 12, 13, 14
 
 
 def message(kind, payload, req=0, tx=0):
@@ -213,6 +213,82 @@ def beside_open(count, size):
         ask(0, START, b"\0")
     for i in range(count):
         ask(0, WRITE, b"/a\0other")
+
+
+# Watches.
+
+
+def readable():
+    """What domain 0 makes from here on, every domain may read."""
+    ask(0, SET_PERMS, b"/\0r0\0")
+
+
+def watched_write(count, size):
+    """WRITEs of nodes, on each of which one of so many watches is, ten of a connection; a unit is a WRITE with its event."""
+    domains(range(1, size // 10 + 1))
+    readable()
+    for i in range(size):
+        ask(i % (size // 10) + 1, WATCH, b"/watched%05d\0token\0" % i)
+    for i in range(count):
+        ask(0, WRITE, b"/watched%05d\0value" % (i * 7919 % (size or 10000)))
+
+
+def many_watchers(count, size):
+    """WRITEs of one node that so many connections watch; a unit is an event."""
+    domains(range(1, size + 1))
+    readable()
+    for d in range(1, size + 1):
+        ask(d, WATCH, b"/watched\0token\0")
+    for i in range(count):
+        ask(0, WRITE, b"/watched\0value")
+
+
+def watched_rm(count, size):
+    """RM of a folder of so many nodes with a watch on each; a unit is a node."""
+    for i in range(size):
+        ask(0, WATCH, b"/folder/node%05d\0token\0" % i)
+        ask(0, WRITE, b"/folder/node%05d\0value" % i)
+    for i in range(count // size):
+        ask(0, RM, b"/folder\0", 40)
+
+
+def rm_below_watch(count, size):
+    """The same with one watch above them all."""
+    ask(0, WATCH, b"/folder\0token\0")
+    for i in range(size):
+        ask(0, WRITE, b"/folder/node%05d\0value" % i)
+    for i in range(count // size):
+        ask(0, RM, b"/folder\0", 40)
+
+
+def rm_unwatched(count, size):
+    """The same without a watch."""
+    for i in range(size):
+        ask(0, WRITE, b"/folder/node%05d\0value" % i)
+    for i in range(count // size):
+        ask(0, RM, b"/folder\0", 40)
+
+
+# Limits.
+
+
+def quota(count):
+    """A guest makes so many watches of one node, each with a token of its own."""
+    domains([5])
+    for i in range(count):
+        ask(5, WATCH, b"/a\0%d\0" % i)
+
+
+def crowded(count):
+    """A guest writes a node that domain 0 watches 4096 times, over and over; an event has 1042 bytes."""
+    domains([5])
+    ask(0, WRITE, b"/a\0")
+    for i in range(4096):
+        ask(0, WATCH, b"/a\0" + b"%01022d\0" % i, 3)
+    # The new entries are a change, so it is told 4096 times as well.
+    ask(0, SET_PERMS, b"/a\0b0\0", 4200)
+    for i in range(count):
+        ask(5, WRITE, b"/a\0")
 
 
 # Scripts.

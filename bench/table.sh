@@ -73,6 +73,13 @@ for size in 0 100000; do
   row units - - "transactions: START and END in a store of nodes: $size" "empty_transactions:$size" 300
 done
 
+row units - - 'watches: WRITE of a node, without any' watched_write:0 300
+row units - - 'watches: WRITE of a node that one of 10000 is on, with its event' watched_write:10000 300
+row units - 1500 'watches: an event of a node that 100 connections watch' many_watchers:100 300 100
+row units - 2500 'watches: RM of 1000 nodes with one on each, a node' watched_rm:1000 1000
+row units - - 'watches: RM of 1000 nodes with one above them, a node' rm_below_watch:1000 1000
+row units - - 'watches: RM of 1000 nodes without any, a node' rm_unwatched:1000 1000
+
 row units 15000 - 'depth: READ of an absent path of 60 levels' absent:60 200
 row units 730000 - 'depth: READ of an absent path of 960 levels' absent:960 20
 row seconds 0.05 - '16000 head lines `domain` in falling order, seconds' falling_domains 16000
