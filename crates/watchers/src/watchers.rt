@@ -24,7 +24,7 @@ use owed_bytes::Owed;
 use std::alloc::Global;
 use std::marker::Model;
 use watch_events::{Change, Nodes, changes};
-use watch_table::Watches;
+use watch_table::{WatchErr, Watches};
 use xs_base::{Bytes, NoMemory};
 use xs_path::Paths;
 
@@ -88,12 +88,14 @@ fn add_behind(watches: &mut Watches, wpath: Bytes, token: Bytes, domid: u16) -> 
     requires domid { domid ≤ 32751 }
     requires wpath { is_watch_path wpath domid ≡ true }
     requires token { is_token token ≡ true }
+    requires other { list_any (same_watch (watch_of wpath token)) (watches_in watches.old) ≡ false }
     ensures ok { OnOk result (watches.new ≡ watches.old ++ record { watch = watch_of wpath token; domid = domid } ∷ []) }
     ensures err { OnErr result (watches.new ≡ watches.old) }
 {
     match watches.add(wpath, token, domid) {
         Ok(()) => Ok(()),
-        Err(_) => Err(NoMemory),
+        Err(WatchErr::NoMemory) => Err(NoMemory),
+        Err(WatchErr::Exists) => unreachable!(),
     }
 }
 
