@@ -1,9 +1,10 @@
 -- What a writer has written so far, one item on.
-use Rattle.std.proofs.Common.{◌≡◌, ℕ, zero, suc, ◌+◌, ◌<◌, ◌≤◌, List, [], ◌∷◌, ◌++◌, length, take, get_or, sym, ap, subst, ◌∙◌, arith}
-use Rattle.std.specs.List.{flat_map, AllByRecursion}
+use Rattle.std.proofs.Common.{◌≡◌, ℕ, zero, suc, ◌+◌, ◌-◌, ◌<◌, ◌≤◌, List, [], ◌∷◌, ◌++◌, length, take, replicate, get_or, refl, sym, ap, subst, ◌∙◌, append_assoc, arith, rules}
+use Rattle.std.specs.List.{concat, flat_map, AllByRecursion}
 use Rattle.std.proofs.lemmas.List.{take_all, take_more, flat_map_more}
-use Rattle.stream_model.specs.Record.{StreamRecord}
-use Rattle.stream_model.specs.Spelling.{header, canonical_record, NumbersFit, LengthsFit, IsStream, EndsOnce}
+use Rattle.stream_model.specs.Fields.{u16_bytes, u32_bytes}
+use Rattle.stream_model.specs.Record.{StreamRecord, type_of}
+use Rattle.stream_model.specs.Spelling.{header, type_number, fields, whole_size, written_behind, written_len, canonical_record, NumbersFit, LengthsFit, IsStream, EndsOnce}
 use Rattle.stream_model.proofs.CanonicalIsStream.{canonical_is_stream}
 use Rattle.mig_records.specs.declared.record.Record.{Record}
 use Rattle.mig_records.specs.RecordView.{record_of, records_of}
@@ -38,3 +39,23 @@ is_written out records i le ends lengths text fit =
     let numbers = rw whole at fit in
     let all = rw whole at text in
     subst (λ (x : List ℕ). IsStream x (records_of records)) (sym all) (canonical_is_stream (records_of records) (record { ends = ends; numbers = numbers; lengths = lengths }))
+
+-- ---- the text of one record: its head, its fields and its padding, one behind the other
+
+regrouped : (before kind len parts more padding : List ℕ)
+    → before ++ (kind ++ len) ++ (parts ++ more) ++ padding ≡ before ++ (kind ++ (len ++ (parts ++ (more ++ (padding ++ [])))))
+regrouped before kind len parts more padding = search (rules, append_assoc)
+
+joined : (before kind len parts more padding a b c : List ℕ) → a ≡ before ++ (kind ++ len) → b ≡ a ++ (parts ++ more) → c ≡ b ++ padding
+    → c ≡ before ++ (kind ++ (len ++ (parts ++ (more ++ (padding ++ [])))))
+joined before kind len parts more padding a b c head body last =
+    last ∙ ap (λ (x : List ℕ). x ++ padding) (body ∙ ap (λ (x : List ℕ). x ++ (parts ++ more)) head) ∙ regrouped before kind len parts more padding
+
+pub is_record : (r : StreamRecord) (len : ℕ) (before a b c : List ℕ) → written_len r ≡ len
+    → a ≡ before ++ (u32_bytes (type_number (type_of r)) ++ u32_bytes len)
+    → b ≡ a ++ (concat (fields (u16_bytes 0) r) ++ written_behind r)
+    → c ≡ b ++ replicate (whole_size len - (8 + len)) 0
+    → c ≡ before ++ canonical_record r
+is_record r len before a b c eq =
+    subst (λ (n : ℕ). a ≡ before ++ (u32_bytes (type_number (type_of r)) ++ u32_bytes n) → b ≡ a ++ (concat (fields (u16_bytes 0) r) ++ written_behind r) → c ≡ b ++ replicate (whole_size n - (8 + n)) 0 → c ≡ before ++ canonical_record r)
+    eq (joined before (u32_bytes (type_number (type_of r))) (u32_bytes (written_len r)) (concat (fields (u16_bytes 0) r)) (written_behind r) (replicate (whole_size (written_len r) - (8 + written_len r)) 0) a b c)

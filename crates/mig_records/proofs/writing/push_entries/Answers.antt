@@ -8,8 +8,8 @@ pub loop-entry-preserved : goal.loop-entry-preserved
 loop-entry-preserved c =
     let perms = c.args.perms.now in
     let i = c.loop-entry.entry-index in
-    let lt = rw c.as_slice-entry-items.ensures at c.loop-entry-test.true in
-    let pushed = rw c.as_slice-entry-items.ensures at c.in_ok-push_entry.ensures in
+    let lt = c.loop-entry-test.true in
+    let pushed = c.in_ok-push_entry.ensures in
     let zero : RawPerm = record { letter = 0; flags = 0; domid = 0 } in
     record {
       text = text_more entry_bytes c.args.out.now c.loop-entry.out c.push_entry.new.out perms i zero lt c.loop-entry.invariant.text pushed.text;

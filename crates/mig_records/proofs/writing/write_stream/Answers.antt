@@ -4,8 +4,8 @@ use Rattle.mig_records.specs.RecordView.{record_of}
 use Rattle.mig_records.proofs.Written.{all_at, is_written}
 use Rattle.mig_records.proofs.writing.write_stream.Goals as goal
 
-pub push_record-requires : goal.push_record-requires
-push_record-requires c =
+pub write_record-requires : goal.write_record-requires
+write_record-requires c =
     let is = rw c.as_slice-item-items.ensures at c.item-item.is in
     let lt = rw c.as_slice-item-items.ensures at c.loop-item-test.true in
     subst (λ r. LengthsFit (record_of r)) (sym is) (all_at LengthsFit c.args.records.now c.loop-item.item-index c.item-item.result lt c.requires.lengths)

@@ -1,6 +1,6 @@
 use Rattle.std.proofs.Common.{rules}
 use Rattle.stream_model.specs.Spelling.{header}
-use Rattle.mig_records.proofs.writing.push_header.Goals as goal
+use Rattle.mig_records.proofs.writing.write_header.Goals as goal
 
 pub returns : goal.returns
 unfolding header
