@@ -8,7 +8,8 @@ use Rattle.machine_model.proofs.Lists.{all_append}
 use Rattle.stream_model.specs.Record.{StreamRecord, end_record}
 use Rattle.kept_model.specs.declared.fault.LoadFault.{LoadFault}
 use Rattle.kept_model.specs.declared.fault.LoadFault.TheVariants.{Orphan}
-use Rattle.kept_model.specs.States.{State, ConnectionOf, Globals}
+use Rattle.machine_model.specs.declared.Globals.{Globals}
+use Rattle.kept_model.specs.States.{State, ConnectionOf}
 use Rattle.kept_model.specs.Said.{Said}
 use Rattle.kept_model.specs.Loading.{Pending, Loading, load_record, load_from, ◌>>=◌}
 use Rattle.kept_model.specs.Normal.{normal_state, is_orphan, unless_orphans}

@@ -14,7 +14,8 @@ use Rattle.machine_model.specs.declared.bounds.TheConstants.{CROWD_LIMIT}
 use Rattle.machine_model.specs.Connections.{caller_of}
 use Rattle.mark_model.specs.Marks.{Mark}
 use Rattle.stream_model.specs.Record.{NodeData}
-use Rattle.kept_model.specs.States.{TransactionOf, ConnectionOf, Globals}
+use Rattle.machine_model.specs.declared.Globals.{Globals}
+use Rattle.kept_model.specs.States.{TransactionOf, ConnectionOf}
 use Rattle.kept_model.specs.Said.{Said}
 use Rattle.kept_model.specs.Sound.{IsSpelled, has_nul}
 use Rattle.kept_model.specs.Loading.{Loading, none_came, conns_in, with_connection, with_opens, is_end_of, is_one_too_many, with_watch, has_come, with_node, load_node, with_said, with_pending, load_mark, load_at, load_record}

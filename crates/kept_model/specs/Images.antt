@@ -13,7 +13,8 @@ use Rattle.mark_model.specs.Marks.{Mark, Seen, Changed, Wrote, Gone, Kept}
 use Rattle.stream_model.specs.Fields.{u16_bytes, u32_bytes}
 use Rattle.stream_model.specs.Record.{StreamRecord, global_data, connection_data, watch_data, transaction_data, node_data, end_record}
 use Rattle.stream_model.specs.Spelling.{canonical}
-use Rattle.kept_model.specs.States.{TransactionOf, ConnectionOf, Globals, State}
+use Rattle.machine_model.specs.declared.Globals.{Globals}
+use Rattle.kept_model.specs.States.{TransactionOf, ConnectionOf, State}
 use Rattle.kept_model.specs.Said.{raw_of}
 
 -- CONNECTIONS. A ring that has no target has the number 32756 in its place

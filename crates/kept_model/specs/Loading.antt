@@ -18,7 +18,8 @@ use Rattle.stream_model.specs.Fields.{u16_at, u32_at}
 use Rattle.stream_model.specs.Record.{StreamRecord, GlobalData, ConnectionData, WatchData, TransactionData, NodeData, global_data, connection_data, watch_data, transaction_data, node_data, end_record, generation_in}
 use Rattle.kept_model.specs.declared.fault.LoadFault.{LoadFault}
 use Rattle.kept_model.specs.declared.fault.LoadFault.TheVariants.{BadSpec, BadOut, BadText, BadPath, BadAccess, BadPerm, Repeated, UnknownConn, UnknownTxn, Orphan}
-use Rattle.kept_model.specs.States.{TransactionOf, ConnectionOf, Globals, StateOf}
+use Rattle.machine_model.specs.declared.Globals.{Globals}
+use Rattle.kept_model.specs.States.{TransactionOf, ConnectionOf, StateOf}
 use Rattle.kept_model.specs.Sound.{is_socket}
 use Rattle.kept_model.specs.Said.{Said, is_empty, access_of, found_by, lacks_entries, said_by, perms_of}
 

@@ -17,7 +17,8 @@ use Rattle.machine_model.specs.declared.bounds.TheConstants.{CROWD_LIMIT}
 use Rattle.machine_model.specs.Connections.{Connections, caller_of, is_ring_of}
 use Rattle.mark_model.specs.Marks.{Mark, Seen, Changed, Wrote, Gone, Kept, Marks}
 use Rattle.mark_model.specs.Stores.{KeptStore, Opens, IsKeptStore}
-use Rattle.kept_model.specs.States.{State, ConnectionOf, Globals, store_of}
+use Rattle.machine_model.specs.declared.Globals.{Globals}
+use Rattle.kept_model.specs.States.{State, ConnectionOf, store_of}
 
 -- NODES. A path is one that its text is read as: it has names, and its text is not too long
 abbrev pub IsSpelled : Path → Type 0

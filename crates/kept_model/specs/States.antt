@@ -1,11 +1,12 @@
 -- A kept state: all that a running store is, so that another one can go on with it. It is what a migration stream tells
 -- (xenstore-migration.md); what it keeps of a transaction is this project's own.
-use Rattle.std.specs.Prelude.{ℕ, ℤ, List, [], map}
+use Rattle.std.specs.Prelude.{ℕ, List, [], map}
 use Rattle.xs_model.specs.Paths.{Path}
 use Rattle.xs_model.specs.Trees.{Tree}
 use Rattle.xs_model.specs.Generations.{Generations}
 use Rattle.xs_model.specs.Watches.{Watch}
 use Rattle.machine_model.specs.declared.ConnSpec.{ConnSpec}
+use Rattle.machine_model.specs.declared.Globals.{Globals}
 use Rattle.machine_model.specs.Connections.{Connection}
 use Rattle.machine_model.specs.Machine.{Machine}
 use Rattle.mark_model.specs.Marks.{Mark}
@@ -29,11 +30,6 @@ pub record ConnectionOf (M : Type 0) : Type 0 where
   pub rest : ℕ
   pub unsent : List ℕ
   pub opens : List (ℕ × TransactionOf M)
-
--- the file descriptors of the whole store, -1 where there is none
-pub record Globals : Type 0 where
-  pub rw_socket_fd : ℤ
-  pub evtchn_fd : ℤ
 
 -- the nodes, the number of each path, and the connections by id
 pub record StateOf (M : Type 0) : Type 0 where
