@@ -8,6 +8,10 @@ use Rattle.out_queues.specs.Queues.{Queue}
 abbrev pub unsent_of : List (ℕ × Queue) → List (ℕ × List ℕ)
 unsent_of queues = map (λ e. (e.0, e.1.bytes)) queues
 
+-- and how many of them end a message that was sent in part
+abbrev pub rests_of : List (ℕ × Queue) → List (ℕ × ℕ)
+rests_of queues = map (λ e. (e.0, e.1.rest)) queues
+
 -- the queue of a connection has memory for so many bytes
 abbrev pub HasRoom : ℕ → ℕ → List (ℕ × Queue) → Type 0
 HasRoom c n queues = (queue : Queue) → find nat_cmp c queues ≡ Some queue → n ≤ queue.spare

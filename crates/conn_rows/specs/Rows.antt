@@ -18,6 +18,10 @@ pub record Row : Type 0 where
   pub queue : Queue
   pub txns : Txns
 
+-- the transactions of rows
+abbrev pub txns_in : List (ℕ × Row) → List (ℕ × Txns)
+txns_in rows = map (λ e. (e.0, e.1.txns)) rows
+
 -- by the ids of the connections, with the number of further ones for which there is memory
 pub record Rows : Type 0 where
   pub queues : List (ℕ × Queue)

@@ -8,8 +8,7 @@
 mod row;
 mod rows;
 mod sending;
-#[cfg(test)]
-mod tests;
 
+pub use row::Row;
 pub use rows::Rows;
 pub use xs_base::NoMemory;

@@ -3,6 +3,7 @@
 ghost use Rattle.std.specs.Prelude.{◌≡◌, ◌+◌, ◌≤◌, ◌<◌, ◌==◌, not, true, [], ◌++◌, length, min, take, drop, Some, None, OnOk, OnErr};
 ghost use Rattle.std.specs.Borrow.{LendsIf, sem};
 ghost use Rattle.std.specs.Option.{option_copied, option_copied_mut};
+ghost use Rattle.std.specs.List.{AllByRecursion};
 ghost use Rattle.std.specs.Ordering.{nat_cmp};
 ghost use Rattle.std.specs.FinMap.{find, put, is_sorted};
 ghost use Rattle.std.specs.FinMap.Entries.{where_key};
@@ -44,15 +45,30 @@ impl Model for Row {
 }
 
 impl Row {
-    /// Nothing is unsent, and no transaction is open. It takes no memory.
-    pub fn new(alloc: Global) -> Row
-        ensures bytes { result.queue.bytes ≡ [] }
+    /// Nothing is unsent but what waits in this queue, and no transaction is open. It takes no memory.
+    pub fn of(alloc: Global, queue: OutQueue) -> Row
+        ensures queue { result.queue ≡ queue }
         ensures txns { result.txns ≡ [] }
     {
         Row {
-            queue: OutQueue::new(alloc),
+            queue,
             txns: IdMap::new(alloc),
         }
+    }
+
+    /// What is unsent. O(1).
+    pub fn queue(&self) -> &OutQueue
+        ensures { result.now ≡ self.now.queue }
+    {
+        &self.queue
+    }
+
+    /// The open transactions, in rising order of their numbers. O(1).
+    pub fn txns(&self) -> &[(u32, Txn)]
+        ensures txns { result.now ≡ self.now.txns }
+        ensures positive { AllByRecursion (λ e. 1 ≤ e.0) result.now }
+    {
+        self.txns.entries()
     }
 
     /// How many bytes are unsent.

@@ -17,13 +17,15 @@ ghost use Rattle.out_queues.specs.Queues.{Queue};
 ghost use Rattle.conn_rows.specs.Sending.{crowding, HasRoomFor, joined_by};
 ghost use Rattle.conn_rows.specs.Queued.{HasRoom, PulledFrom, unsent_of};
 ghost use Rattle.txn_access.specs.contracts.txn.Txn.{the_row as txn_row};
-ghost use Rattle.conn_rows.specs.Rows.{opens_in, opens_of, txns_of, from_id, IsNextFrom, ArePlanned, HaveRoom};
+ghost use Rattle.conn_rows.specs.Receivers.{queues_of};
+ghost use Rattle.conn_rows.specs.Rows.{txns_in, opens_in, opens_of, txns_of, from_id, IsNextFrom, ArePlanned, HaveRoom};
 ghost use Rattle.conn_rows.specs.contracts.rows.Rows.{the_row};
 
 use crate::row::Row;
 use crate::sending;
 use id_map::IdMap;
 use node_tree::Tree;
+use out_queues::OutQueue;
 use owed_bytes::Owed;
 use std::alloc::Global;
 use std::marker::Model;
@@ -105,6 +107,22 @@ impl Rows {
         }
     }
 
+    /// All rows, in rising order of their connections' ids. O(1).
+    pub fn entries(&self) -> &[(u32, Row)]
+        ensures queues { queues_of result.now ≡ self.now.queues }
+        ensures txns { txns_in result.now ≡ self.now.txns }
+    {
+        self.rows.entries()
+    }
+
+    /// The row of a connection, if it is there. O(log connections).
+    pub fn row(&self, conn: u32) -> Option<&Row>
+        ensures queue { option_map (λ row. row.queue) (option_copied result) ≡ find nat_cmp conn self.now.queues }
+        ensures txns { option_map (λ row. row.txns) (option_copied result) ≡ find nat_cmp conn self.now.txns }
+    {
+        self.rows.get(conn)
+    }
+
     /// How many bytes are unsent to a connection, if it is there. O(log connections).
     pub fn unsent(&self, conn: u32) -> Option<usize>
         ensures { result ≡ option_map (λ queue. length queue.bytes) (find nat_cmp conn self.now.queues) }
@@ -130,7 +148,18 @@ impl Rows {
         ensures others { (other : ℕ) → (other == conn) ≡ false → find nat_cmp other self.new.queues ≡ find nat_cmp other self.old.queues }
         ensures txns { self.new.txns ≡ put nat_cmp conn [] self.old.txns }
     {
-        let row = Row::new(self.alloc);
+        let queue = OutQueue::new(self.alloc);
+        self.put(conn, queue);
+    }
+
+    /// Gives a connection a row, in place of the one that it has: what waits in this queue is unsent, and no transaction is
+    /// open. It takes no memory, and moves the rows of higher ids.
+    pub fn put(&mut self, conn: u32, queue: OutQueue)
+        requires { 1 ≤ self.old.spare }
+        ensures queues { self.new.queues ≡ put nat_cmp conn queue self.old.queues }
+        ensures txns { self.new.txns ≡ put nat_cmp conn [] self.old.txns }
+    {
+        let row = Row::of(self.alloc, queue);
         self.rows.put(conn, row);
     }
 

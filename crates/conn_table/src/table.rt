@@ -132,6 +132,13 @@ impl Conns {
         self.rings.get(u32::from(domid)).copied()
     }
 
+    /// All connections, in rising order of their ids. O(1).
+    pub fn entries(&self) -> &[(u32, ConnSpec)]
+        ensures { result.now ≡ self.now }
+    {
+        self.specs.entries()
+    }
+
     /// The least id above this one that has a connection, whether this one has one or not. O(log connections).
     pub fn next_after(&self, id: u32) -> Option<u32>
         ensures next { result ≡ first_id (above id self.now) }

@@ -154,6 +154,14 @@ impl<T> IdMap<T> {
         }
     }
 
+    /// All items with their ids, in rising order of the ids. O(1).
+    pub fn entries(&self) -> &[(u32, T)]
+        ensures entries { result.now ≡ self.now.entries }
+        ensures rising { is_sorted nat_cmp result.now ≡ true }
+    {
+        self.entries.as_slice()
+    }
+
     /// The least id above this one that has an item, whether this one has an item or not. O(log items).
     pub fn next_after(&self, id: u32) -> Option<u32>
         ensures next { result ≡ first_id (above id self.now.entries) }

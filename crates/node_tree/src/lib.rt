@@ -10,8 +10,6 @@ mod entry;
 pub mod laws;
 mod nodes;
 mod stamp;
-#[cfg(test)]
-mod tests;
 mod view;
 
 ghost use Rattle.std.specs.Prelude.{◌≡◌, ◌+◌, ◌<◌, ◌≤◌, true, false, [], ◌∷◌, Some, None, Ok, IfOk, IfSome, OnOk, max, if◌then◌else◌};
@@ -23,15 +21,15 @@ ghost use Rattle.xs_model.specs.Generations.{new_generations, greatest, greater,
 ghost use Rattle.xs_model.specs.Paths.{child, text, path_of, path_cmp};
 ghost use Rattle.xs_model.specs.Requests.{is_root};
 ghost use Rattle.xs_model.specs.Trees.{IsTree, new_tree, node_at, is_present, children, edited_at, has_entry};
-ghost use Rattle.node_tree.specs.KeptTree.{has_parent, IsKept};
+ghost use Rattle.node_tree.specs.KeptTree.{has_parent, IsKept, nodes_of, gens_of};
 ghost use Rattle.node_tree.specs.Made.{IsMade};
 ghost use Rattle.node_tree.specs.Names.{first_name, names_above};
 ghost use Rattle.node_tree.specs.Numbers.{restamped, counted};
 ghost use Rattle.node_tree.specs.MadeProofs.{made_nothing, made_more, made_backwards};
 
-use entry::Entry;
+pub use entry::Entry;
 pub use nodes::Node;
-use path_map::{PathMap, name_below};
+use path_map::{PathMap, Walk, name_below};
 use std::alloc::Global;
 use std::marker::Model;
 pub use view::View;
@@ -96,6 +94,14 @@ impl Tree {
         ensures { IsKept self.now }
     {
         let _counter = self.counter;
+    }
+
+    /// All nodes with their numbers, in the order of their paths, one after the other. O(1).
+    pub fn walk(&self) -> Walk<'_, Entry>
+        ensures nodes { nodes_of result ≡ self.now.nodes }
+        ensures gens { gens_of result ≡ self.now.gens }
+    {
+        self.map.walk()
     }
 
     /// The first path behind this one, which need not be there itself. Costs O(log nodes) comparisons of paths.

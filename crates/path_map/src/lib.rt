@@ -5,8 +5,8 @@
 //! std's `find` and `put` with `path_cmp`.
 //!
 //! Memory is taken by [`PathMap::reserve`] alone. To change an item in place, take it by [`PathMap::get_mut`]. To go
-//! over all items, ask [`PathMap::parts`] for their chunks, or [`PathMap::next_after`] for one path after the other; to
-//! move them out, ask [`PathMap::pop_first`].
+//! over all items, ask [`PathMap::walk`] for one after the other, [`PathMap::parts`] for their chunks, or
+//! [`PathMap::next_after`] for the path behind any one; to move them out, ask [`PathMap::pop_first`].
 #![tactic(auto)]
 
 mod chunk;
@@ -16,10 +16,10 @@ mod moves;
 mod names;
 mod past;
 mod search;
-#[cfg(test)]
-mod tests;
+mod walk;
 
 pub use chunk::Chunk;
 pub use map::PathMap;
 pub use names::name_below;
+pub use walk::Walk;
 pub use xs_base::NoMemory;

@@ -11,6 +11,7 @@ ghost use Rattle.path_map.specs.Marks.{path_behind, first_past};
 ghost use Rattle.path_map.specs.contracts.map.PathMap.{the_row};
 
 use crate::chunk::{Chunk, HALF};
+use crate::walk::Walk;
 use crate::{chunks, past};
 use std::alloc::Global;
 use std::marker::Model;
@@ -77,6 +78,13 @@ impl<T> PathMap<T> {
         ensures rising { is_sorted path_cmp self.now.entries ≡ true }
     {
         self.chunks.as_slice()
+    }
+
+    /// The entries in their order, one after the other. O(1).
+    pub fn walk(&self) -> Walk<'_, T>
+        ensures { result ≡ self.now.entries }
+    {
+        Walk::new(self.chunks.as_slice())
     }
 
     /// The item of a path, if it has one. O(log items) comparisons of paths.

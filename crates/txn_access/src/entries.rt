@@ -1,6 +1,6 @@
 //! The marks of a transaction, one after the other.
 
-ghost use Rattle.std.specs.Prelude.{◌≡◌, ◌++◌, [], drop, slice_get};
+ghost use Rattle.std.specs.Prelude.{◌≡◌, drop, slice_get};
 ghost use Rattle.std.specs.Option.{option_copied, option_map};
 ghost use Rattle.path_map.specs.Chunks.{joined};
 ghost use Rattle.txn_access.specs.Entries.{entry_of, entry_at};
@@ -8,35 +8,29 @@ ghost use Rattle.txn_access.specs.Entries.{entry_of, entry_at};
 use crate::entry::EntryKind;
 use crate::mark::Held;
 use node_tree::Node;
-use path_map::Chunk;
+use path_map::{Chunk, Walk};
 use std::marker::Model;
 use xs_path::Path;
 
 /// The marks of a transaction that are left to tell, in the order of their paths.
 #[derive(Debug, Drop)]
 pub struct Entries<'a> {
-    chunk: &'a [(Path, Held)],
-    behind: &'a [Chunk<Held>],
+    walk: Walk<'a, Held>,
 }
 
 impl<'a> Model for Entries<'a> {
-    ghost use Rattle.std.specs.Prelude.{◌++◌};
     ghost use Rattle.mark_model.specs.Marks.{Marks};
-    ghost use Rattle.path_map.specs.Chunks.{joined};
 
     ghost Value = { Marks };
 
-    ghost view = { λ e. e.chunk.now ++ joined e.behind.now };
+    ghost view = { λ e. e.walk };
 }
 
 impl<'a> Entries<'a> {
-    pub(crate) fn new(chunks: &'a [Chunk<Held>]) -> Entries<'a>
-        ensures { result ≡ joined chunks.now }
+    pub(crate) fn new(walk: Walk<'a, Held>) -> Entries<'a>
+        ensures { result ≡ walk.entry }
     {
-        Entries {
-            chunk: &[],
-            behind: chunks,
-        }
+        Entries { walk }
     }
 
     /// The next mark, as [`Txn::entry`](crate::Txn::entry) tells it, or none once all were told. Costs O(1) on average
@@ -45,29 +39,9 @@ impl<'a> Entries<'a> {
         ensures entry { option_map entry_at result ≡ option_map entry_of (slice_get self.old 0) }
         ensures rest { self.new ≡ drop 1 self.old }
     {
-        let (chunk, behind) = front(self.chunk, self.behind);
-        let (first, rest) = chunk.split_first()?;
-        self.chunk = rest;
-        self.behind = behind;
+        let first = self.walk.next_entry()?;
         Some(tell(first))
     }
-}
-
-/// The same marks, of which the first stands in the chunk.
-fn front<'a>(
-    chunk: &'a [(Path, Held)],
-    behind: &'a [Chunk<Held>],
-) -> (&'a [(Path, Held)], &'a [Chunk<Held>])
-    ensures same { result.0.now ++ joined result.1.now ≡ chunk.now ++ joined behind.now }
-    ensures all { result.0.now ≡ [] → chunk.now ++ joined behind.now ≡ [] }
-{
-    let mut chunk = chunk;
-    let mut behind = behind;
-    'empty: while chunk.is_empty() && !behind.is_empty() {
-        chunk = behind[0].entries();
-        behind = &behind[1..];
-    }
-    (chunk, behind)
 }
 
 /// The mark at a place. Costs O(chunks).

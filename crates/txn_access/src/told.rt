@@ -20,7 +20,7 @@ impl Txn {
     pub fn entries(&self) -> Entries<'_>
         ensures { result ≡ self.now.marks }
     {
-        Entries::new(self.map.parts())
+        Entries::new(self.map.walk())
     }
 
     /// The mark at a place in the order of the paths: its path, its kind, whether others changed the path, and the node
