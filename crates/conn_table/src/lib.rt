@@ -10,8 +10,6 @@
 mod edits;
 pub mod laws;
 mod table;
-#[cfg(test)]
-mod tests;
 
 pub use machine_model::ConnSpec;
 pub use table::{AddErr, Conns};

@@ -22,8 +22,6 @@ pub mod laws;
 mod peers;
 mod reply;
 mod service;
-#[cfg(test)]
-mod tests;
 mod transactions;
 mod watches;
 

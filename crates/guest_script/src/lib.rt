@@ -14,8 +14,6 @@ mod line_text;
 mod numbers;
 mod print;
 mod script;
-#[cfg(test)]
-mod tests;
 mod text_lines;
 mod verbs;
 

@@ -28,8 +28,6 @@
 #![tactic(auto)]
 
 mod map;
-#[cfg(test)]
-mod tests;
 
 pub use map::IdMap;
 pub use xs_base::NoMemory;

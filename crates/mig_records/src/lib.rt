@@ -2,8 +2,8 @@
 //!
 //! [`read_stream`] reads the bytes that are a stream of records and no others, and names the first fault of any
 //! other bytes and its place; [`Reader`] does the same and hands on one record at a time. [`write_stream`] writes the
-//! one canonical text. [`next_place`] steps from the place
-//! of one record to that of the next.
+//! one canonical text; [`write_header`], [`write_node`] and the like write it record by record, by parts that may stand
+//! anywhere. [`next_place`] steps from the place of one record to that of the next.
 #![tactic(auto)]
 
 pub mod fields;
@@ -13,8 +13,6 @@ mod reading;
 mod record;
 mod stream;
 mod testing;
-#[cfg(test)]
-mod tests;
 mod writing;
 
 pub use places::next_place;
@@ -22,4 +20,7 @@ pub use reader::Reader;
 pub use record::{RawPerms, Record, Records};
 pub use stream::read_stream;
 pub use stream_model::{RawPerm, StreamFault};
-pub use writing::write_stream;
+pub use writing::{
+    write_connection, write_end, write_global, write_header, write_node, write_stream,
+    write_transaction, write_watch,
+};

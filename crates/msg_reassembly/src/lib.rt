@@ -12,8 +12,6 @@ mod front;
 mod inbox;
 pub mod laws;
 mod messages;
-#[cfg(test)]
-mod tests;
 
 pub use front::Front;
 pub use inbox::{Inbox, Ins};

@@ -12,8 +12,6 @@
 pub mod laws;
 mod messages;
 mod queue;
-#[cfg(test)]
-mod tests;
 
 pub use queue::{OutErr, OutQueue};
 pub use xs_base::NoMemory;

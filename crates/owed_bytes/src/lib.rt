@@ -4,8 +4,6 @@
 #![tactic(auto)]
 
 mod owed;
-#[cfg(test)]
-mod tests;
 
 pub use owed::Owed;
 pub use xs_base::NoMemory;

@@ -3,8 +3,6 @@
 
 mod input;
 mod output;
-#[cfg(test)]
-mod tests;
 
 pub use input::{INPUT_LIMIT, InputFault, read_all};
 pub use output::{write_all, write_if_many};

@@ -17,8 +17,6 @@ mod consumer;
 mod laws;
 mod producer;
 mod row;
-#[cfg(test)]
-mod tests;
 
 pub use closing::{Lists, close_ring, ring};
 pub use consumer::{Consumer, Take};

@@ -13,8 +13,6 @@ mod index;
 pub mod laws;
 mod page;
 mod ring;
-#[cfg(test)]
-mod tests;
 
 pub use index::{BadIndex, used};
 pub use page::{PlainPage, Words};

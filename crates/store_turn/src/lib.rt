@@ -18,8 +18,6 @@ mod history;
 pub mod laws;
 mod object;
 mod steps;
-#[cfg(test)]
-mod tests;
 mod turn;
 mod views;
 

@@ -8,8 +8,6 @@ mod form;
 mod lines;
 mod show;
 mod status;
-#[cfg(test)]
-mod tests;
 
 ghost use Rattle.std.specs.Prelude.{◌≡◌, ◌⊎◌, ◌↔◌, ◌<◌, None, IsSome, IfSome, IsTrue, List, ℕ, map, length, string_bytes};
 ghost use Rattle.std.specs.Io.KnownBytes.{Appends, Keeps, IsAtEnd};

@@ -11,8 +11,6 @@ mod look;
 mod parts;
 mod reading;
 mod removing;
-#[cfg(test)]
-mod tests;
 mod writing;
 
 pub use commands::run;

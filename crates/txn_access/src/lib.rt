@@ -14,8 +14,6 @@ mod marks;
 mod names;
 mod overlays;
 mod plan;
-#[cfg(test)]
-mod tests;
 mod told;
 mod txn;
 

@@ -11,8 +11,6 @@ mod message;
 mod naming;
 mod nodes;
 mod sending;
-#[cfg(test)]
-mod tests;
 
 pub use change::{Change, Changes, changes, perms_at};
 pub use debts::{owed, push_owed, push_special};

@@ -7,8 +7,6 @@
 mod entries;
 mod key;
 mod table;
-#[cfg(test)]
-mod tests;
 
 pub use table::{WatchErr, Watches};
 pub use xs_base::NoMemory;

@@ -8,8 +8,6 @@ mod index;
 mod listing;
 mod messages;
 mod owing;
-#[cfg(test)]
-mod tests;
 mod watchers;
 
 pub use watch_table::Watches;

@@ -10,8 +10,6 @@ mod head;
 pub mod laws;
 mod payload;
 mod request;
-#[cfg(test)]
-mod tests;
 mod transaction;
 mod watch;
 

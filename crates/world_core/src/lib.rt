@@ -12,8 +12,6 @@
 mod guest;
 mod outbox;
 mod seats;
-#[cfg(test)]
-mod tests;
 mod world;
 
 pub use world::World;

@@ -29,8 +29,6 @@ mod std_source;
 mod sure_sink;
 mod sure_source;
 mod sure_vault;
-#[cfg(test)]
-mod tests;
 mod told;
 mod vaults;
 

@@ -7,8 +7,6 @@
 mod form;
 mod play;
 mod status;
-#[cfg(test)]
-mod tests;
 
 ghost use Rattle.std.specs.Prelude.{◌≡◌, ◌⊎◌, ◌↔◌, ◌<◌, ◌≤◌, ℕ, true, false, Some, IsSome, IfSome, IsTrue, map, length, string_bytes};
 ghost use Rattle.std.specs.Io.KnownBytes.{Appends, Keeps, IsAtEnd};

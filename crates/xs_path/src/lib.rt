@@ -8,8 +8,6 @@
 mod fault;
 pub mod laws;
 mod order;
-#[cfg(test)]
-mod tests;
 mod text;
 
 ghost use Rattle.std.specs.Prelude.{◌≡◌, Err, ◌↔◌, ◌≤◌, ℕ, false, [], ◌∷◌, length, take, if◌then◌else◌, IsTrue, IfOk, option_to_list};

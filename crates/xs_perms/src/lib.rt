@@ -7,8 +7,6 @@
 mod access;
 pub mod laws;
 mod spelling;
-#[cfg(test)]
-mod tests;
 
 pub use access::rights;
 pub use spelling::{print_perm, read_perm};

@@ -1,8 +1,0 @@
-use Rattle.std.proofs.Common.{◌≡◌, All, length}
-use Rattle.store_turn.proofs.tests.give_all.Given as goal
-
-abbrev pub invariant-loop-caller : goal.invariant-loop-caller
-invariant-loop-caller l = (l.callers.turn ≡ l.initial.callers.turn) × All (λ one. one.0.turn ≡ l.initial.callers.turn) l.back.items
-
-abbrev pub decreases-loop-caller : goal.decreases-loop-caller
-decreases-loop-caller l = length l.back.items

@@ -1,5 +1,0 @@
-use Rattle.node_tree.proofs.Shape.{IsTree-put}
-use Rattle.txn_access.proofs.tests.commit_first.Goals as goal
-
-pub commit-requires : goal.commit-requires
-commit-requires c = rw c.requires.one (IsTree-put c.args.tree.now.nodes c.args.path.now c.args.node.now c.is_kept.ensures.tree c.requires.parent c.requires.entry)
