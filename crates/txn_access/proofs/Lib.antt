@@ -6,5 +6,6 @@ pub mod Nearest
 pub mod NextSeen
 pub mod NoteLemmas
 pub mod PlanLemmas
+pub mod PresenceLemmas
 pub mod Seen
 pub mod StepLemmas

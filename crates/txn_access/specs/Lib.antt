@@ -3,6 +3,7 @@ pub mod MarkViews
 pub mod Overlays
 pub mod OverlayProofs
 pub mod Plans
+pub mod Presence
 pub mod Sights
 pub mod Steps
 pub mod TreeProofs

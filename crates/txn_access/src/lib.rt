@@ -14,6 +14,7 @@ mod marks;
 mod names;
 mod overlays;
 mod plan;
+mod presence;
 mod told;
 mod txn;
 
