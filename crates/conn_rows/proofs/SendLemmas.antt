@@ -95,28 +95,30 @@ module _ (asker n : ℕ) (owed : Unsent) where
   room_here at next row rows room lt there = room next row.queue lt (queue_there next row rows there)
 
 -- WHAT IS SEEN of a row that is changed
-seen_as : (old new : Row) (bytes : List ℕ) → new.queue.bytes ≡ bytes → new.txns ≡ old.txns → ◌≡◌ {A = Seen} (new.queue.bytes, new.txns) (bytes, old.txns)
-seen_as old new bytes b t = λ i. (b i, t i)
+seen_as : (old new : Row) (bytes : List ℕ) → new.queue.bytes ≡ bytes → new.queue.rest ≡ old.queue.rest → new.txns ≡ old.txns
+    → ◌≡◌ {A = Seen} (new.queue.bytes, (new.queue.rest, new.txns)) (bytes, (old.queue.rest, old.txns))
+seen_as old new bytes b r t = λ i. (b i, (r i, t i))
 
-pub seen_kept : (c : ℕ) (old new : Row) (rows : List (ℕ × Row)) → is_sorted nat_cmp rows ≡ true → Some old ≡ find nat_cmp c rows → new.queue.bytes ≡ old.queue.bytes → new.txns ≡ old.txns → seen_in (put nat_cmp c new rows) ≡ seen_in rows
-seen_kept c old new rows rising there bytes txns =
-    map_changed c new old (λ e. (e.0, (e.1.queue.bytes, e.1.txns))) (λ e. (e.0, (e.1.queue.bytes, e.1.txns))) (λ e. is_some (find nat_cmp e.0 rows) ≡ true) (λ e apart h. refl)
-    (ap (λ (s : Seen). (c, s)) (seen_as old new old.queue.bytes bytes txns)) rows rising (all_there rows) (sym there)
+pub seen_kept : (c : ℕ) (old new : Row) (rows : List (ℕ × Row)) → is_sorted nat_cmp rows ≡ true → Some old ≡ find nat_cmp c rows → new.queue.bytes ≡ old.queue.bytes → new.queue.rest ≡ old.queue.rest → new.txns ≡ old.txns
+    → seen_in (put nat_cmp c new rows) ≡ seen_in rows
+seen_kept c old new rows rising there bytes rest txns =
+    map_changed c new old (λ e. (e.0, (e.1.queue.bytes, (e.1.queue.rest, e.1.txns)))) (λ e. (e.0, (e.1.queue.bytes, (e.1.queue.rest, e.1.txns)))) (λ e. is_some (find nat_cmp e.0 rows) ≡ true) (λ e apart h. refl)
+    (ap (λ (s : Seen). (c, s)) (seen_as old new old.queue.bytes bytes rest txns)) rows rising (all_there rows) (sym there)
 
 -- WHAT IS STILL TO BE SENT, once the walk has come to an id: to those behind it
 abbrev pub left_at : ℕ → List ℕ → Unsent → ℕ → ℕ → List ℕ
 left_at asker reply owed at c = cond (nat_lt at c) (sent_by asker reply owed c) []
 
 abbrev pub awaited_at : ℕ → List ℕ → Unsent → ℕ → ℕ × Row → ℕ × Seen
-awaited_at asker reply owed at e = (e.0, (e.1.queue.bytes ++ left_at asker reply owed at e.0, e.1.txns))
+awaited_at asker reply owed at e = (e.0, (e.1.queue.bytes ++ left_at asker reply owed at e.0, (e.1.queue.rest, e.1.txns)))
 
 -- what is seen of rows, with what is still to be sent to them
 abbrev pub awaited_in : ℕ → List ℕ → Unsent → ℕ → List (ℕ × Row) → List (ℕ × Seen)
 awaited_in asker reply owed at rows = map (awaited_at asker reply owed at) rows
 
 module _ (asker : ℕ) (reply : List ℕ) (owed : Unsent) where
-  awaited_as : (at : ℕ) (e : ℕ × Row) (bytes : List ℕ) → left_at asker reply owed at e.0 ≡ bytes → awaited_at asker reply owed at e ≡ (e.0, (e.1.queue.bytes ++ bytes, e.1.txns))
-  awaited_as at e bytes is = ap (λ b. (e.0, (e.1.queue.bytes ++ b, e.1.txns))) is
+  awaited_as : (at : ℕ) (e : ℕ × Row) (bytes : List ℕ) → left_at asker reply owed at e.0 ≡ bytes → awaited_at asker reply owed at e ≡ (e.0, (e.1.queue.bytes ++ bytes, (e.1.queue.rest, e.1.txns)))
+  awaited_as at e bytes is = ap (λ b. (e.0, (e.1.queue.bytes ++ b, (e.1.queue.rest, e.1.txns)))) is
 
   left_behind : (at c : ℕ) → at < c → left_at asker reply owed at c ≡ sent_by asker reply owed c
   left_behind at c lt = ap (λ b. cond b (sent_by asker reply owed c) []) (lower at c lt)
@@ -133,7 +135,7 @@ module _ (asker : ℕ) (reply : List ℕ) (owed : Unsent) where
 
   pub awaited_first : (rows : List (ℕ × Row)) → AllByRecursion (λ e. 1 ≤ e.0) rows → awaited_in asker reply owed 0 rows ≡ seen_after asker reply owed rows
   awaited_first rows positive =
-      map_alike (awaited_at asker reply owed 0) (λ e. (e.0, (e.1.queue.bytes ++ sent_by asker reply owed e.0, e.1.txns))) (λ e. 1 ≤ e.0)
+      map_alike (awaited_at asker reply owed 0) (λ e. (e.0, (e.1.queue.bytes ++ sent_by asker reply owed e.0, (e.1.queue.rest, e.1.txns)))) (λ e. 1 ≤ e.0)
       (λ e h. awaited_as 0 e (sent_by asker reply owed e.0) (left_behind 0 e.0 (some e.0 h))) rows positive
     where
       some : (i : ℕ) → 1 ≤ i → 0 < i
@@ -141,8 +143,8 @@ module _ (asker : ℕ) (reply : List ℕ) (owed : Unsent) where
 
   pub awaited_last : (at : ℕ) (rows : List (ℕ × Row)) → ((c : ℕ) → at < c → GetsNothing asker owed c) → awaited_in asker reply owed at rows ≡ seen_in rows
   awaited_last at rows none =
-      map_alike (awaited_at asker reply owed at) (λ e. (e.0, (e.1.queue.bytes, e.1.txns))) (λ e. is_some (find nat_cmp e.0 rows) ≡ true)
-      (λ e h. awaited_as at e [] (placed e.0 (up_to asker owed at e.0 none)) ∙ ap (λ b. (e.0, (b, e.1.txns))) (append-nil e.1.queue.bytes)) rows (all_there rows)
+      map_alike (awaited_at asker reply owed at) (λ e. (e.0, (e.1.queue.bytes, (e.1.queue.rest, e.1.txns)))) (λ e. is_some (find nat_cmp e.0 rows) ≡ true)
+      (λ e h. awaited_as at e [] (placed e.0 (up_to asker owed at e.0 none)) ∙ ap (λ b. (e.0, (b, (e.1.queue.rest, e.1.txns)))) (append-nil e.1.queue.bytes)) rows (all_there rows)
     where
       placed : (c : ℕ) → (c ≤ at) ⊎ GetsNothing asker owed c → left_at asker reply owed at c ≡ []
       placed c (inl low) = left_up_to at c low
@@ -167,12 +169,12 @@ module _ (asker : ℕ) (reply : List ℕ) (owed : Unsent) where
     awaited_beside e apart = awaited_as next e (left_at asker reply owed at e.0) (same_left e.0 apart)
 
     -- the next one was sent what is for it
-    pub awaited_sent : (old new : Row) → is_sorted nat_cmp rows ≡ true → Some old ≡ find nat_cmp next rows → new.queue.bytes ≡ old.queue.bytes ++ sent_by asker reply owed next → new.txns ≡ old.txns
+    pub awaited_sent : (old new : Row) → is_sorted nat_cmp rows ≡ true → Some old ≡ find nat_cmp next rows → new.queue.bytes ≡ old.queue.bytes ++ sent_by asker reply owed next → new.queue.rest ≡ old.queue.rest → new.txns ≡ old.txns
         → awaited_in asker reply owed next (put nat_cmp next new rows) ≡ awaited_in asker reply owed at rows
-    awaited_sent old new rising there bytes txns =
+    awaited_sent old new rising there bytes rest txns =
         map_changed next new old (awaited_at asker reply owed next) (awaited_at asker reply owed at) (λ e. is_some (find nat_cmp e.0 rows) ≡ true) (λ e apart h. awaited_beside e apart)
-        (awaited_as next (next, new) [] (left_up_to next next (same next)) ∙ ap (λ b. (next, (b, new.txns))) (append-nil new.queue.bytes)
-        ∙ ap (λ (s : Seen). (next, s)) (seen_as old new (old.queue.bytes ++ sent_by asker reply owed next) bytes txns)
+        (awaited_as next (next, new) [] (left_up_to next next (same next)) ∙ ap (λ b. (next, (b, (new.queue.rest, new.txns)))) (append-nil new.queue.bytes)
+        ∙ ap (λ (s : Seen). (next, s)) (seen_as old new (old.queue.bytes ++ sent_by asker reply owed next) bytes rest txns)
         ∙ sym (awaited_as at (next, old) (sent_by asker reply owed next) (left_behind at next is.above))) rows rising (all_there rows) (sym there)
       where
         same : (i : ℕ) → i ≤ i

@@ -1,4 +1,4 @@
--- The bytes in queues, by connection.
+-- The bytes in queues, and the rests of messages in front of them, by connection.
 use Rattle.std.proofs.Common.{◌≡◌, ℕ, ◌≤◌, true, List, [], ◌∷◌, ◌++◌, Some, None, sym, ap, subst, ◌∙◌}
 use Rattle.std.specs.List.{AllByRecursion}
 use Rattle.std.specs.Option.{option_map}
@@ -6,7 +6,7 @@ use Rattle.std.specs.Ordering.{nat_cmp}
 use Rattle.std.specs.FinMap.{find, put, is_sorted}
 use Rattle.xs_model.proofs.Maps.{from_Some, found_map, sorted_map}
 use Rattle.out_queues.specs.Queues.{Queue}
-use Rattle.conn_rows.specs.Queued.{unsent_of, HasRoom}
+use Rattle.conn_rows.specs.Queued.{unsent_of, rests_of, HasRoom}
 use Rattle.conn_rows.proofs.IdEntries.{put_map, found_itself, put_again}
 
 pub unsent_put : (c : ℕ) (queue : Queue) (queues : List (ℕ × Queue)) (bytes : List ℕ) → queue.bytes ≡ bytes → unsent_of (put nat_cmp c queue queues) ≡ put nat_cmp c bytes (unsent_of queues)
@@ -23,6 +23,18 @@ pub unsent_kept : (c : ℕ) (old new : Queue) (queues : List (ℕ × Queue)) →
 unsent_kept c old new queues rising there is =
     unsent_put c new queues old.bytes is
     ∙ put_again c old.bytes (unsent_of queues) (unsent_rising queues ∙ rising) (unsent_found c queues ∙ ap (option_map (λ q. q.bytes)) there)
+
+-- the same of the rests
+pub rests_put : (c : ℕ) (queue : Queue) (queues : List (ℕ × Queue)) (rest : ℕ) → queue.rest ≡ rest → rests_of (put nat_cmp c queue queues) ≡ put nat_cmp c rest (rests_of queues)
+rests_put c queue queues rest is = put_map (λ q. q.rest) c queue queues ∙ ap (λ r. put nat_cmp c r (rests_of queues)) is
+
+pub rests_found : (c : ℕ) (queues : List (ℕ × Queue)) → find nat_cmp c (rests_of queues) ≡ option_map (λ q. q.rest) (find nat_cmp c queues)
+rests_found c queues = found_map nat_cmp (λ (q : Queue). q.rest) c queues
+
+pub rests_kept : (c : ℕ) (old new : Queue) (queues : List (ℕ × Queue)) → is_sorted nat_cmp queues ≡ true → find nat_cmp c queues ≡ Some old → new.rest ≡ old.rest → rests_of (put nat_cmp c new queues) ≡ rests_of queues
+rests_kept c old new queues rising there is =
+    rests_put c new queues old.rest is
+    ∙ put_again c old.rest (rests_of queues) (sorted_map nat_cmp (λ (q : Queue). q.rest) queues ∙ rising) (rests_found c queues ∙ ap (option_map (λ q. q.rest)) there)
 
 -- a message more
 pub unsent_pushed : (c : ℕ) (old new : Queue) (message : List ℕ) (queues : List (ℕ × Queue)) → Some old ≡ find nat_cmp c queues → new.bytes ≡ old.bytes ++ message

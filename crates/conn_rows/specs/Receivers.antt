@@ -19,13 +19,13 @@ pub record IsNextReceiver (asker : ℕ) (owed : Unsent) (at next : ℕ) : Type 0
 abbrev pub queues_of : List (ℕ × Row) → List (ℕ × Queue)
 queues_of rows = map (λ e. (e.0, e.1.queue)) rows
 
--- what callers see of a row
+-- what callers see of a row: the bytes, how many of them end a message, and the transactions
 abbrev pub Seen : Type 0
-Seen = List ℕ × Txns
+Seen = List ℕ × (ℕ × Txns)
 
 abbrev pub seen_in : List (ℕ × Row) → List (ℕ × Seen)
-seen_in rows = map (λ e. (e.0, (e.1.queue.bytes, e.1.txns))) rows
+seen_in rows = map (λ e. (e.0, (e.1.queue.bytes, (e.1.queue.rest, e.1.txns)))) rows
 
 -- once each was sent what is for it
 abbrev pub seen_after : ℕ → List ℕ → Unsent → List (ℕ × Row) → List (ℕ × Seen)
-seen_after asker reply owed rows = map (λ e. (e.0, (e.1.queue.bytes ++ sent_by asker reply owed e.0, e.1.txns))) rows
+seen_after asker reply owed rows = map (λ e. (e.0, (e.1.queue.bytes ++ sent_by asker reply owed e.0, (e.1.queue.rest, e.1.txns)))) rows

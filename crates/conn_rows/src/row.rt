@@ -7,7 +7,7 @@ ghost use Rattle.std.specs.List.{AllByRecursion};
 ghost use Rattle.std.specs.Ordering.{nat_cmp};
 ghost use Rattle.std.specs.FinMap.{find, put, is_sorted};
 ghost use Rattle.std.specs.FinMap.Entries.{where_key};
-ghost use Rattle.xs_model.specs.Wholes.{whole_behind};
+ghost use Rattle.xs_model.specs.Wholes.{whole_behind, rest_after};
 ghost use Rattle.machine_model.specs.Connections.{least_free};
 ghost use Rattle.mark_model.specs.Stores.{no_marks};
 ghost use Rattle.txn_access.specs.Txns.{Plans};
@@ -82,6 +82,7 @@ impl Row {
     pub fn reserve(&mut self, bytes: usize) -> Result<(), NoMemory>
         ensures ok { OnOk result (bytes ≤ self.new.queue.spare) }
         ensures bytes { self.new.queue.bytes ≡ self.old.queue.bytes }
+        ensures rest { self.new.queue.rest ≡ self.old.queue.rest }
         ensures txns { self.new.txns ≡ self.old.txns }
     {
         self.queue.reserve(bytes)
@@ -92,6 +93,7 @@ impl Row {
         requires whole { whole_behind 0 message.now ≡ true }
         requires room { length message.now ≤ self.old.queue.spare }
         ensures bytes { self.new.queue.bytes ≡ self.old.queue.bytes ++ message.now }
+        ensures rest { self.new.queue.rest ≡ self.old.queue.rest }
         ensures txns { self.new.txns ≡ self.old.txns }
     {
         self.queue.push(message)
@@ -102,6 +104,7 @@ impl Row {
         requires whole { (whole_behind 0 reply.now ≡ true) × (whole_behind 0 owed.now ≡ true) }
         requires room { length reply.now + length owed.now ≤ self.old.queue.spare }
         ensures bytes { self.new.queue.bytes ≡ self.old.queue.bytes ++ (reply.now ++ owed.now) }
+        ensures rest { self.new.queue.rest ≡ self.old.queue.rest }
         ensures txns { self.new.txns ≡ self.old.txns }
     {
         self.queue.push(reply);
@@ -113,6 +116,7 @@ impl Row {
         ensures count { result ≡ min (length into.old) (length self.old.queue.bytes) }
         ensures taken { into.new ≡ take result self.old.queue.bytes ++ drop result into.old }
         ensures bytes { self.new.queue.bytes ≡ drop result self.old.queue.bytes }
+        ensures rest { self.new.queue.rest ≡ rest_after self.old.queue.rest result self.old.queue.bytes }
         ensures txns { self.new.txns ≡ self.old.txns }
     {
         self.queue.pull(into)

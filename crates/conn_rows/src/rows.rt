@@ -15,7 +15,7 @@ ghost use Rattle.machine_model.specs.declared.bounds.TheConstants.{CROWD_LIMIT};
 ghost use Rattle.mark_model.specs.Stores.{no_marks, noted_all};
 ghost use Rattle.out_queues.specs.Queues.{Queue};
 ghost use Rattle.conn_rows.specs.Sending.{crowding, HasRoomFor, joined_by};
-ghost use Rattle.conn_rows.specs.Queued.{HasRoom, PulledFrom, unsent_of};
+ghost use Rattle.conn_rows.specs.Queued.{HasRoom, PulledFrom, unsent_of, rests_of};
 ghost use Rattle.txn_access.specs.contracts.txn.Txn.{the_row as txn_row};
 ghost use Rattle.conn_rows.specs.Receivers.{queues_of};
 ghost use Rattle.conn_rows.specs.Rows.{txns_in, opens_in, opens_of, txns_of, from_id, IsNextFrom, ArePlanned, HaveRoom};
@@ -145,6 +145,7 @@ impl Rows {
     pub fn add(&mut self, conn: u32)
         requires { 1 ≤ self.old.spare }
         ensures bytes { unsent_of self.new.queues ≡ put nat_cmp conn [] (unsent_of self.old.queues) }
+        ensures rests { rests_of self.new.queues ≡ put nat_cmp conn 0 (rests_of self.old.queues) }
         ensures others { (other : ℕ) → (other == conn) ≡ false → find nat_cmp other self.new.queues ≡ find nat_cmp other self.old.queues }
         ensures txns { self.new.txns ≡ put nat_cmp conn [] self.old.txns }
     {
@@ -176,6 +177,7 @@ impl Rows {
     pub fn reserve_bytes(&mut self, conn: u32, bytes: usize) -> Result<(), NoMemory>
         ensures ok { OnOk result (HasRoom conn bytes self.new.queues) }
         ensures bytes { unsent_of self.new.queues ≡ unsent_of self.old.queues }
+        ensures rests { rests_of self.new.queues ≡ rests_of self.old.queues }
         ensures txns { self.new.txns ≡ self.old.txns }
     {
         let Some(row) = self.rows.get_mut(conn) else {
@@ -190,6 +192,7 @@ impl Rows {
         requires room { HasRoom conn (length message.now) self.old.queues }
         ensures bytes { (bytes : List ℕ) → find nat_cmp conn (unsent_of self.old.queues) ≡ Some bytes
             → unsent_of self.new.queues ≡ put nat_cmp conn (bytes ++ message.now) (unsent_of self.old.queues) }
+        ensures rests { rests_of self.new.queues ≡ rests_of self.old.queues }
         ensures absent { find nat_cmp conn self.old.queues ≡ None → self.new ≡ self.old }
         ensures txns { self.new.txns ≡ self.old.txns }
     {
@@ -216,6 +219,7 @@ impl Rows {
         requires positive { AllByRecursion (λ e. 1 ≤ e.0) self.old.queues }
         ensures ok { OnOk result (HasRoomFor conn reply owed.now self.new.queues) }
         ensures bytes { unsent_of self.new.queues ≡ unsent_of self.old.queues }
+        ensures rests { rests_of self.new.queues ≡ rests_of self.old.queues }
         ensures txns { self.new.txns ≡ self.old.txns }
     {
         sending::reserve_all(&mut self.rows, conn, reply, owed)
@@ -228,6 +232,7 @@ impl Rows {
         requires whole { whole_behind 0 reply.now ≡ true }
         requires room { HasRoomFor conn (length reply.now) owed.now self.old.queues }
         ensures bytes { unsent_of self.new.queues ≡ joined_by conn reply.now owed.now (unsent_of self.old.queues) }
+        ensures rests { rests_of self.new.queues ≡ rests_of self.old.queues }
         ensures txns { self.new.txns ≡ self.old.txns }
     {
         sending::send(&mut self.rows, conn, reply, owed);

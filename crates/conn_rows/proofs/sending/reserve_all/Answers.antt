@@ -10,7 +10,7 @@ walk-init c = record {
 
 pub returns-in_err-reserve-clause-seen : goal.returns-in_err-reserve-clause-seen
 returns-in_err-reserve-clause-seen c =
-    seen_kept c.in-Some.receiver c.in-Some-get_mut.row.now c.reserve.new.self c.walk.rows.entries c.get_mut.ensures.rising c.in-Some-get_mut.ensures.value c.reserve.ensures.bytes c.reserve.ensures.txns
+    seen_kept c.in-Some.receiver c.in-Some-get_mut.row.now c.reserve.new.self c.walk.rows.entries c.get_mut.ensures.rising c.in-Some-get_mut.ensures.value c.reserve.ensures.bytes c.reserve.ensures.rest c.reserve.ensures.txns
     ∙ c.walk.invariant.seen
 
 pub walk-preserved-in_ok-reserve : goal.walk-preserved-in_ok-reserve
@@ -20,7 +20,7 @@ walk-preserved-in_ok-reserve c =
     record {
       room = room_taken c.args.conn c.args.reply c.args.owed.now c.walk.at c.in-Some.receiver c.in-Some.ensures.some rows new
           (subst (λ n. n ≤ new.queue.spare) c.in_ok-count.ensures c.in_ok-reserve.ensures.ok) c.walk.invariant.room;
-      seen = seen_kept c.in-Some.receiver c.in-Some-get_mut.row.now new rows c.get_mut.ensures.rising c.in-Some-get_mut.ensures.value c.reserve.ensures.bytes c.reserve.ensures.txns
+      seen = seen_kept c.in-Some.receiver c.in-Some-get_mut.row.now new rows c.get_mut.ensures.rising c.in-Some-get_mut.ensures.value c.reserve.ensures.bytes c.reserve.ensures.rest c.reserve.ensures.txns
           ∙ c.walk.invariant.seen;
     }
 

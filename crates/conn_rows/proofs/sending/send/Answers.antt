@@ -26,7 +26,7 @@ walk-preserved-in-Some-get_mut c =
     let new = c.send.new.self in
     record {
       awaited = awaited_sent c.args.conn c.args.reply.now c.args.owed.now c.walk.at c.in-Some.receiver c.in-Some.ensures.some rows old new c.get_mut.ensures.rising c.in-Some-get_mut.ensures.value
-          (c.send.ensures.bytes ∙ ap (λ b. old.queue.bytes ++ b) (ap₂ ◌++◌ c.part_of.ensures c.bytes.ensures.bytes)) c.send.ensures.txns
+          (c.send.ensures.bytes ∙ ap (λ b. old.queue.bytes ++ b) (ap₂ ◌++◌ c.part_of.ensures c.bytes.ensures.bytes)) c.send.ensures.rest c.send.ensures.txns
           ∙ c.walk.invariant.awaited;
       room = room_left c.args.conn (length c.args.reply.now) c.args.owed.now c.walk.at c.in-Some.receiver c.in-Some.ensures.some rows new c.walk.invariant.room;
     }

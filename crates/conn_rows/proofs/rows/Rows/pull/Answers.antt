@@ -3,9 +3,10 @@ use Rattle.std.specs.Option.{option_map}
 use Rattle.std.specs.Ordering.{nat_cmp}
 use Rattle.std.specs.FinMap.{put}
 use Rattle.out_queues.specs.Queues.{Queue}
-use Rattle.conn_rows.specs.Queued.{Moves, PulledFrom, unsent_of}
+use Rattle.xs_model.specs.Wholes.{rest_after}
+use Rattle.conn_rows.specs.Queued.{Moves, PulledFrom, unsent_of, rests_of}
 use Rattle.conn_rows.specs.Rows.{Rows}
-use Rattle.conn_rows.proofs.UnsentBytes.{unsent_found, unsent_put}
+use Rattle.conn_rows.proofs.UnsentBytes.{unsent_found, unsent_put, rests_found, rests_put}
 use Rattle.conn_rows.proofs.RowLemmas.{queues_in, put_queues, queue_there, queue_absent, quiet_put, same_txns}
 use Rattle.conn_rows.proofs.rows.Rows.pull.Goals as goal
 
@@ -24,12 +25,17 @@ pub returns-clause-pulled : goal.returns-clause-pulled
 returns-clause-pulled c =
     let rows = c.self.inside.rows.entries in
     let bytes = c.in_ok-row.row.now.queue.bytes in
+    let rest = c.in_ok-row.row.now.queue.rest in
+    let is = queue_there c.args.conn c.in_ok-row.row.now rows c.in_ok-row.ensures.value in
     subst (λ (r : Rows). Moves r.queues c.args.conn c.args.into.now (queues_in (put nat_cmp c.args.conn c.pull.new.self rows)) c.pull.new.into c.pull.result) c.self.view_is (record {
       bytes = bytes;
-      there = unsent_found c.args.conn (queues_in rows) ∙ ap (option_map (λ (q : Queue). q.bytes)) (queue_there c.args.conn c.in_ok-row.row.now rows c.in_ok-row.ensures.value);
+      there = unsent_found c.args.conn (queues_in rows) ∙ ap (option_map (λ (q : Queue). q.bytes)) is;
       count = c.pull.ensures.count;
       taken = c.pull.ensures.taken;
       unsent = ap unsent_of (put_queues c.args.conn c.pull.new.self rows) ∙ unsent_put c.args.conn c.pull.new.self.queue (queues_in rows) (drop c.pull.result bytes) c.pull.ensures.bytes;
+      rest = rest;
+      was = rests_found c.args.conn (queues_in rows) ∙ ap (option_map (λ (q : Queue). q.rest)) is;
+      rests = ap rests_of (put_queues c.args.conn c.pull.new.self rows) ∙ rests_put c.args.conn c.pull.new.self.queue (queues_in rows) (rest_after rest c.pull.result bytes) c.pull.ensures.rest;
     })
 
 pub returns-clause-txns : goal.returns-clause-txns

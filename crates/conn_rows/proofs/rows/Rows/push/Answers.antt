@@ -1,10 +1,10 @@
 use Rattle.std.proofs.Common.{◌≡◌, ℕ, List, ◌++◌, length, Some, sym, ap, ◌∙◌, subst}
 use Rattle.std.specs.Ordering.{nat_cmp}
 use Rattle.std.specs.FinMap.{find, put}
-use Rattle.xs_model.proofs.Maps.{not_Some}
-use Rattle.conn_rows.specs.Queued.{HasRoom, unsent_of}
-use Rattle.conn_rows.specs.Rows.{Rows}
-use Rattle.conn_rows.proofs.UnsentBytes.{unsent_pushed, unsent_absent}
+use Rattle.xs_model.proofs.Maps.{not_Some, sorted_map}
+use Rattle.conn_rows.specs.Queued.{HasRoom, unsent_of, rests_of}
+use Rattle.conn_rows.specs.Rows.{Row, Rows}
+use Rattle.conn_rows.proofs.UnsentBytes.{unsent_pushed, unsent_absent, rests_kept}
 use Rattle.conn_rows.proofs.RowLemmas.{queues_in, put_queues, queue_there, queue_absent, quiet_put, same_txns}
 use Rattle.conn_rows.proofs.rows.Rows.push.Goals as goal
 
@@ -30,6 +30,14 @@ returns-clause-bytes c =
     (λ bytes found. ap unsent_of (put_queues c.args.conn c.push.new.self rows)
     ∙ unsent_pushed c.args.conn c.in-Some.row.now.queue c.push.new.self.queue c.args.message.now (queues_in rows)
     (sym (queue_there c.args.conn c.in-Some.row.now rows c.in-Some.ensures.value)) c.push.ensures.bytes bytes found)
+
+pub returns-clause-rests : goal.returns-clause-rests
+returns-clause-rests c =
+    let rows = c.self.inside.rows.entries in
+    ap rests_of (put_queues c.args.conn c.push.new.self rows)
+    ∙ rests_kept c.args.conn c.in-Some.row.now.queue c.push.new.self.queue (queues_in rows) (sorted_map nat_cmp (λ (row : Row). row.queue) rows ∙ c.get_mut.ensures.rising)
+    (queue_there c.args.conn c.in-Some.row.now rows c.in-Some.ensures.value) c.push.ensures.rest
+    ∙ ap (λ (r : Rows). rests_of r.queues) c.self.view_is
 
 pub returns-clause-absent : goal.returns-clause-absent
 returns-clause-absent c = λ absent.
