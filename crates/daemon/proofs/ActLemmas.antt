@@ -20,14 +20,14 @@ use Rattle.daemon.specs.declared.answer.Door.TheVariants.{Same}
 use Rattle.daemon.specs.declared.reply.Answer.{Answer}
 use Rattle.daemon.specs.declared.reply.Answered.{Answered}
 use Rattle.daemon.specs.declared.reply.Answered.TheVariants as answered
-use Rattle.daemon.specs.Keeps.{machine_of, store_of}
+use Rattle.daemon.specs.Keeps.{machine_of}
 use Rattle.conn_rows.specs.Rows.{opens_of}
-use Rattle.conn_rows.specs.Queued.{unsent_of}
+use Rattle.conn_rows.specs.Queued.{unsent_of, rests_of}
 use Rattle.conn_rows.specs.Sending.{HasRoomFor, crowding}
 use Rattle.daemon.specs.Peers.{Connected, IsSound, IsInBounds, MayAsk, conns_in, conn_in, message_limit}
-use Rattle.daemon.specs.Acts.{kept_by, unsent_by, reply_length, IsDoor, Did, DidBeside, IsAnswered, IsAnsweredBeside, IsAsBefore, IsSameKept}
+use Rattle.daemon.specs.Acts.{unsent_by, rests_by, reply_length, IsDoor, Did, DidBeside, IsAnswered, IsAnsweredBeside, IsAsBefore, IsSameKept, store_in}
 use Rattle.daemon.proofs.QuietLemmas.{reply_fits, quiet_sends, quiet_room, quiet_crowding}
-use Rattle.daemon.proofs.UnsentLemmas.{unsent_same, opens_same}
+use Rattle.daemon.proofs.UnsentLemmas.{unsent_same, rests_same, opens_same}
 use Rattle.daemon.proofs.DoneLemmas.{has_refused}
 
 -- this reply, and nothing sent
@@ -37,15 +37,17 @@ answering reply m = record { reply = reply; machine = m; sends = [] }
 module _ (c : ℕ) (peers : Connected) (sound : IsSound peers) (may : MayAsk c peers) (done : Done) (reply : Result (List ℕ) WireErr) (short : IfOk reply (λ payload. length payload ≤ 4096)) (answer : Answer) (replied : answer.reply ≡ reply) (owes : answer.owed ≡ []) where
   -- other connections, and nothing is owed
   pub did : (tree : Tree) (gens : Generations) (new : Connected) → done ≡ answering reply (machine_of tree gens new.specs new.watched) → opens_of new.txns ≡ opens_by (conns_in new) (opens_of peers.txns)
-      → IsDoor (conns_in peers) (conns_in new) answer.door → unsent_of new.queues ≡ unsent_by new.specs (unsent_of peers.queues) → new.queues ≡ peers.queues → IsSound new
+      → IsDoor (conns_in peers) (conns_in new) answer.door → unsent_of new.queues ≡ unsent_by new.specs (unsent_of peers.queues)
+      → rests_of new.queues ≡ rests_by new.specs (rests_of peers.queues) → new.queues ≡ peers.queues → IsSound new
       → DidBeside c peers done tree gens answer new
-  did tree gens new acted opens door unsent queues sound_new = subst (λ d. DidBeside c peers d tree gens answer new) (sym acted) (record {
+  did tree gens new acted opens door unsent rests queues sound_new = subst (λ d. DidBeside c peers d tree gens answer new) (sym acted) (record {
     reply = replied;
     machine = refl;
     sends = quiet_sends answer.owed [] owes refl;
     opens = opens;
     door = door;
     unsent = unsent;
+    rests = rests;
     room = subst (HasRoomFor c message_limit answer.owed) (sym queues) (quiet_room c peers may answer.owed owes);
     uncrowded = ap (λ qs. crowding c (reply_length answer.reply) answer.owed (unsent_of qs)) queues
         ∙ quiet_crowding c peers may answer.owed owes sound (reply_length answer.reply) (reply_fits answer.reply (subst (λ r. IfOk r (λ payload. length payload ≤ 4096)) (sym replied) short));
@@ -56,11 +58,11 @@ module _ (c : ℕ) (peers : Connected) (sound : IsSound peers) (may : MayAsk c p
   pub did_same : (tree : Tree) (gens : Generations) → done ≡ answering reply (machine_of tree gens peers.specs peers.watched) → answer.door ≡ Same → DidBeside c peers done tree gens answer peers
   did_same tree gens acted door = did tree gens peers acted (opens_same peers sound peers.specs peers.watched refl)
       (subst (IsDoor (conns_in peers) (conns_in peers)) (sym door) refl)
-      (unsent_same peers sound peers.specs refl) refl sound
+      (unsent_same peers sound peers.specs refl) (rests_same peers sound peers.specs refl) refl sound
 
 -- IN THE STORE THAT IS KEPT
 pub did_beside : (c : ℕ) (tree : KeptTree) (peers : Connected) (done : Done) (answer : Answer) (new : Connected) → tree.counter ≡ greatest tree.gens → DidBeside c peers done tree.nodes tree.gens answer new
-    → Did c tree peers (beside (store_of (kept_by tree peers)) done) answer tree new
+    → Did c tree peers (beside (store_in tree peers) done) answer tree new
 did_beside c tree peers done answer new counter d = record {
   reply = d.reply;
   store = λ i. record { machine = d.machine i; opens = (ap (λ (m : Machine). opens_by m.conns (opens_of peers.txns)) d.machine ∙ sym d.opens) i };
@@ -68,6 +70,7 @@ did_beside c tree peers done answer new counter d = record {
   counter = counter;
   door = d.door;
   unsent = d.unsent;
+  rests = d.rests;
   room = d.room;
   uncrowded = d.uncrowded;
   sound = d.sound;
@@ -75,8 +78,7 @@ did_beside c tree peers done answer new counter d = record {
 
 -- the same is kept
 pub same_kept : (tree : KeptTree) (peers new : Connected) → IsSameKept peers new → IsAsBefore tree peers tree new
-same_kept tree peers new same =
-    (λ i. record { tree = tree.nodes; gens = tree.gens; specs = same.specs i; watched = same.watched i; opens = same.opens i; unsent = same.unsent i }, refl)
+same_kept tree peers new same = record { nodes = refl; gens = refl; counter = refl; conns = same }
 
 pub same_equal : (peers new : Connected) → new ≡ peers → IsSameKept peers new
 same_equal peers new same = record {
@@ -84,10 +86,11 @@ same_equal peers new same = record {
   watched = ap (λ (p : Connected). p.watched) same;
   opens = ap (λ (p : Connected). opens_of p.txns) same;
   unsent = ap (λ (p : Connected). unsent_of p.queues) same;
+  rests = ap (λ (p : Connected). rests_of p.queues) same;
 }
 
 pub answered_beside : (c : ℕ) (tree : KeptTree) (peers : Connected) (done : Done) (what : Answered) (new : Connected) → tree.counter ≡ greatest tree.gens → IsAnsweredBeside c peers done tree.nodes tree.gens what new
-    → IsAnswered c tree peers (beside (store_of (kept_by tree peers)) done) what tree new
+    → IsAnswered c tree peers (beside (store_in tree peers) done) what tree new
 answered_beside c tree peers done (answered.Done answer) new counter d = did_beside c tree peers done answer new counter d
 answered_beside c tree peers done (answered.Crowded e) new counter d = record {
   owed = d.owed;
@@ -98,9 +101,9 @@ answered_beside c tree peers done (answered.Crowded e) new counter d = record {
 
 -- a refusal, by which nothing changes
 pub did_refuse : (c : ℕ) (tree : KeptTree) (peers : Connected) (error : WireErr) (answer : Answer) → tree.counter ≡ greatest tree.gens → IsSound peers → MayAsk c peers → answer.reply ≡ Err error → answer.door ≡ Same → answer.owed ≡ []
-    → Did c tree peers (kept_refused error (store_of (kept_by tree peers))) answer tree peers
+    → Did c tree peers (kept_refused error (store_in tree peers)) answer tree peers
 did_refuse c tree peers error answer counter sound may replied door owes =
-    has_refused c tree peers sound (kept_refused error (store_of (kept_by tree peers))) answer replied door may owes refl (subst (λ r. IfOk r (λ payload. length payload ≤ 4096)) (sym replied) tt) refl counter
+    has_refused c tree peers sound (kept_refused error (store_in tree peers)) answer replied door may owes refl (subst (λ r. IfOk r (λ payload. length payload ≤ 4096)) (sym replied) tt) refl counter
 
 -- WHO ASKS acts for a domid
 pub asker_bound : (c : ℕ) (spec : ConnSpec) (peers : Connected) → IsSound peers → find nat_cmp c peers.specs ≡ Some spec → (caller_of spec).domid ≤ 32751
@@ -121,9 +124,9 @@ introduced_short false = omega arith
 pub refused_request : (c : ℕ) (spec : ConnSpec) (tx kind : ℕ) (payload : List ℕ) (domid : ℕ) (error : WireErr) (tree : KeptTree) (peers : Connected) (answer : Answer)
     → tree.counter ≡ greatest tree.gens → IsSound peers → MayAsk c peers → answer.reply ≡ Err error → answer.door ≡ Same → answer.owed ≡ []
     → domid ≡ (caller_of spec).domid → request_of all_types kind payload domid ≡ Err error
-    → Did c tree peers (kept_act_or_refuse (store_of (kept_by tree peers)) c (conn_in peers c spec) tx (request_of all_types kind payload (caller_of spec).domid)) answer tree peers
+    → Did c tree peers (kept_act_or_refuse (store_in tree peers) c (conn_in peers c spec) tx (request_of all_types kind payload (caller_of spec).domid)) answer tree peers
 refused_request c spec tx kind payload domid error tree peers answer counter sound may replied door owes asks asked =
-    let k : KeptStore = store_of (kept_by tree peers) in
+    let k : KeptStore = store_in tree peers in
     subst (λ r. Did c tree peers (kept_act_or_refuse k c (conn_in peers c spec) tx r) answer tree peers)
     (sym (ap (request_of all_types kind payload) (sym asks) ∙ asked)) (did_refuse c tree peers error answer counter sound may replied door owes)
 

@@ -28,13 +28,13 @@ use Rattle.tree_ops.specs.declared.did.Did.{Did as DidCommand}
 use Rattle.txn_access.specs.Txns.{Txn}
 use Rattle.daemon.specs.declared.answer.Door.TheVariants.{Same}
 use Rattle.daemon.specs.declared.reply.Answer.{Answer}
-use Rattle.daemon.specs.Keeps.{machine_of, store_of}
+use Rattle.daemon.specs.Keeps.{machine_of}
 use Rattle.conn_rows.specs.Rows.{Rows, Txns, kept_txn, opens_in, opens_of, or_no_txns, txns_of}
-use Rattle.conn_rows.specs.Queued.{unsent_of}
+use Rattle.conn_rows.specs.Queued.{unsent_of, rests_of}
 use Rattle.watchers.specs.Watched.{Watched, conns_of}
 use Rattle.conn_rows.specs.Sending.{crowding}
 use Rattle.daemon.specs.Peers.{Connected, MayAsk, conn_in}
-use Rattle.daemon.specs.Acts.{kept_by, reply_length, IsWhole, Did, IsCrowding}
+use Rattle.daemon.specs.Acts.{reply_length, IsWhole, Did, IsCrowding, IsAsBefore, store_in}
 use Rattle.daemon.specs.Changes.{IsMade, WouldCrowd}
 use Rattle.daemon.specs.Commands.{IsRun, IsInside}
 use Rattle.conn_rows.proofs.IdEntries.{keys_map, put_map, put_again, same_rising, same_there}
@@ -66,7 +66,7 @@ nothing = record { marks = []; count = 0; spare = 0; kept = 0; pending = [] }
 
 module _ (c : ℕ) (tree : KeptTree) (specs : Specs) (watched : Watched) (rows : Rows) (whole : IsWhole tree (connected specs watched rows)) (may : MayAsk c (connected specs watched rows)) (spec : ConnSpec) (operation : Operation) (path : Path) where
   abbrev k : KeptStore
-  k = store_of (kept_by tree (connected specs watched rows))
+  k = store_in tree (connected specs watched rows)
 
   abbrev outcome : Outcome
   outcome = command operation path (caller_of spec) (generation_of tree.gens path) tree.nodes
@@ -121,7 +121,7 @@ module _ (c : ℕ) (tree : KeptTree) (specs : Specs) (watched : Watched) (rows :
     module _ (n : ℕ) (count : n ≡ reply_length did.reply) (new : KeptTree) (left : Rows) where
       pub outside_written : (answer : Answer) → answer.reply ≡ did.reply → answer.door ≡ Same → IsMade c n ran.marks specs watched tree rows rows answer.owed new left → Did c tree before done answer new (connected specs watched left)
       outside_written answer replied door is =
-          has_sent c tree before whole.sound done answer (replied ∙ reply_here) door new (connected specs watched left) refl refl is.changed.unsent
+          has_sent c tree before whole.sound done answer (replied ∙ reply_here) door new (connected specs watched left) refl refl is.changed.unsent is.changed.rests
           (ids_changed ran.marks tree new rows left is.changed ∙ keys_map opens_in rows.txns ∙ whole.sound.rows)
           (one_way.store ∙ store_changed ran.marks tree new rows left is.changed specs watched) is.changed.counter
           (λ d. ap (sent_to d) one_way.sends ∙ is.owed.owes d) is.room
@@ -133,7 +133,7 @@ module _ (c : ℕ) (tree : KeptTree) (specs : Specs) (watched : Watched) (rows :
         sends = λ e. ap (sent_to e) one_way.sends ∙ is.owed.1.owes e;
         crowds = (λ i. crowding c (reply_length (sym reply_here i)) is.owed.0 (same_conns i))
             ∙ ap (λ m. crowding c m is.owed.0 (unsent_of rows.queues)) (sym count) ∙ is.owed.1.crowds;
-        unchanged = (kept_unchanged tree specs watched rows new left is.unchanged, is.unchanged.counter);
+        unchanged = kept_unchanged tree specs watched rows new left is.unchanged;
       }
         where
           same_conns : map (λ e. (e.0, unsent_to e.0 (unsent_of rows.queues))) (conns_of specs watched) ≡ unsent_of rows.queues
@@ -219,7 +219,7 @@ number_or_zero (Some n) = refl
 
 module _ (c tx : ℕ) (inside : 1 ≤ tx) (tree : KeptTree) (specs : Specs) (watched : Watched) (rows : Rows) (whole : IsWhole tree (connected specs watched rows)) (may : MayAsk c (connected specs watched rows)) (spec : ConnSpec) (there : find nat_cmp c specs ≡ Some spec) (operation : Operation) (path : Path) where
   abbrev kept : KeptStore
-  kept = store_of (kept_by tree (connected specs watched rows))
+  kept = store_in tree (connected specs watched rows)
 
   abbrev asks : Connection
   asks = conn_in (connected specs watched rows) c spec
@@ -260,7 +260,7 @@ on_err P (Err e) p = p
 
 pub same_put_back : (c tx : ℕ) (tree : KeptTree) (specs : Specs) (watched : Watched) (rows : Rows) → IsWhole tree (connected specs watched rows) → (spec : ConnSpec) → find nat_cmp c specs ≡ Some spec → (old new : Txn) → find nat_cmp tx (txns_of c rows.txns) ≡ Some old
     → is_sorted nat_cmp (txns_of c rows.txns) ≡ true → kept_txn new ≡ kept_txn old → (left : Rows) → left.queues ≡ rows.queues → left.txns ≡ put nat_cmp c (put nat_cmp tx new (txns_of c rows.txns)) rows.txns
-    → kept_by tree (connected specs watched left) ≡ kept_by tree (connected specs watched rows)
+    → IsAsBefore tree (connected specs watched rows) tree (connected specs watched left)
 same_put_back c tx tree specs watched rows whole spec there old new found rising same left queues puts =
     let here : Txns = txns_of c rows.txns in
     let inner : opens_in (put nat_cmp tx new here) ≡ opens_in here =
@@ -274,7 +274,12 @@ same_put_back c tx tree specs watched rows whole spec there old new found rising
     let opens : opens_of left.txns ≡ opens_of rows.txns =
     ap opens_of puts ∙ put_map opens_in c (put nat_cmp tx new here) rows.txns ∙ ap (λ (os : Opens). put nat_cmp c os (opens_of rows.txns)) inner ∙ put_again c (opens_in here) (opens_of rows.txns) outer_rising row_there
     in
-    λ i. record { tree = tree.nodes; gens = tree.gens; specs = specs; watched = watched; opens = opens i; unsent = unsent_of (queues i) }
+    record {
+      nodes = refl;
+      gens = refl;
+      counter = refl;
+      conns = record { specs = refl; watched = refl; opens = opens; unsent = ap unsent_of queues; rests = ap rests_of queues };
+    }
   where
     row : (o : Option Txns) → is_some o ≡ true → option_map opens_in o ≡ Some (opens_in (or_no_txns o))
     row None h = cc

@@ -31,10 +31,10 @@ use Rattle.daemon.specs.declared.answer.Door.TheVariants.{Same, Opened, Closed}
 use Rattle.daemon.specs.declared.reply.Answer.{Answer}
 use Rattle.daemon.specs.Keeps.{machine_of}
 use Rattle.conn_rows.specs.Rows.{opens_in, opens_of}
-use Rattle.conn_rows.specs.Queued.{unsent_of}
+use Rattle.conn_rows.specs.Queued.{unsent_of, rests_of}
 use Rattle.conn_rows.specs.Sending.{count_by, HasRoomFor, crowding}
 use Rattle.daemon.specs.Peers.{Connected, IsSound, MayAsk, conns_in, conn_in, message_limit}
-use Rattle.daemon.specs.Acts.{unsent_by, reply_length, Opens, Closes, IsDoor, DidBeside, IsCrowdingBeside, IsSameKept}
+use Rattle.daemon.specs.Acts.{unsent_by, rests_by, reply_length, Opens, Closes, IsDoor, DidBeside, IsCrowdingBeside, IsSameKept}
 use Rattle.conn_rows.proofs.IdEntries.{found_at, none_there, same_there, where_map}
 use Rattle.daemon.proofs.KeepsLemmas.{conn_at, found_where, conns_keys, conns_found, conns_put, conns_without, conns_ring, conns_free}
 use Rattle.daemon.proofs.OwnLemmas.{none_watched}
@@ -42,7 +42,7 @@ use Rattle.daemon.proofs.PeerLemmas.{ids_unsent, short_unsent}
 use Rattle.daemon.proofs.SendLemmas.{crowding_more, crowding_less, nothing_for}
 use Rattle.daemon.proofs.ActLemmas.{did}
 use Rattle.daemon.proofs.ValueLemmas.{same_ids}
-use Rattle.daemon.proofs.UnsentLemmas.{opens_put_more, unsent_same, unsent_more, unsent_less, opens_same, opens_less}
+use Rattle.daemon.proofs.UnsentLemmas.{opens_put_more, unsent_same, unsent_more, unsent_less, rests_same, rests_more, rests_less, opens_same, opens_less}
 
 -- WHO ASKS
 pub guest_asks : (conn : Connection) (m : Machine) (done : Done) (domid : ℕ) → domid ≡ (caller_of conn.spec).domid → domid ≢ 0 → if_control conn m done ≡ refused Eacces m
@@ -179,7 +179,8 @@ module _ (c : ℕ) (tree : Tree) (gens : Generations) (peers : Connected) (sound
       (acted ∙ (λ i. granted (machine_of tree gens (sym set i) (sym watched i))))
       (ap (λ rows. opens_of rows) txns ∙ opens_same peers sound new.specs new.watched same)
       (subst (IsDoor (conns_in peers) (conns_in new)) (sym door) conns_same)
-      (ap (λ q. unsent_of q) queues ∙ unsent_same peers sound new.specs same) queues kept
+      (ap (λ q. unsent_of q) queues ∙ unsent_same peers sound new.specs same)
+      (ap (λ q. rests_of q) queues ∙ rests_same peers sound new.specs same) queues kept
 
 -- A DOMAIN THAT HAD NONE GETS ITS RING
 module _ (c : ℕ) (tree : Tree) (gens : Generations) (peers : Connected) (sound : IsSound peers) (asker : ConnSpec) (there : find nat_cmp c peers.specs ≡ Some asker) (d evtchn : ℕ) (none : ring_id d peers.specs ≡ None)
@@ -232,11 +233,11 @@ module _ (c : ℕ) (tree : Tree) (gens : Generations) (peers : Connected) (sound
     pub did_open : (answer : Answer) → answer.reply ≡ Ok ok_payload → answer.door ≡ Opened d → answer.owed ≡ owed → (mid new : Connected) → IsSound new
         → HasRoomFor c message_limit owed mid.queues → crowding c (reply_length (Ok ok_payload)) owed (unsent_of peers.queues) ≡ None
         → new.specs ≡ more → new.watched ≡ peers.watched
-        → unsent_of new.queues ≡ put nat_cmp id [] (unsent_of peers.queues)
+        → unsent_of new.queues ≡ put nat_cmp id [] (unsent_of peers.queues) → rests_of new.queues ≡ put nat_cmp id 0 (rests_of peers.queues)
         → ((other : ℕ) → (other == id) ≡ false → find nat_cmp other new.queues ≡ find nat_cmp other mid.queues)
         → opens_of new.txns ≡ put nat_cmp id [] (opens_of peers.txns)
         → DidBeside c peers done tree gens answer new
-    did_open answer replied door sent mid new kept room uncrowded specs watched bytes others txns =
+    did_open answer replied door sent mid new kept room uncrowded specs watched bytes rests others txns =
         let opens : Opens d (conns_in peers) (conns_in new) = record {
           conn = id;
           evtchn = evtchn;
@@ -252,6 +253,7 @@ module _ (c : ℕ) (tree : Tree) (gens : Generations) (peers : Connected) (sound
           opens = txns ∙ opens_put_more peers sound peers.watched id ring least.free ∙ (λ i. opens_by (conns_of (sym specs i) (sym watched i)) (opens_of peers.txns));
           door = subst (IsDoor (conns_in peers) (conns_in new)) (sym door) opens;
           unsent = bytes ∙ unsent_more peers sound id ring least.free ∙ ap (λ es. unsent_by es (unsent_of peers.queues)) (sym specs);
+          rests = rests ∙ rests_more peers sound id ring least.free ∙ ap (λ es. rests_by es (rests_of peers.queues)) (sym specs);
           room = subst (λ o. HasRoomFor c message_limit o new.queues) (sym sent) (room_new mid new room others);
           uncrowded = (λ i. crowding c (reply_length (replied i)) (sent i) (bytes i)) ∙ crowds_same ∙ uncrowded;
           sound = kept;
@@ -323,12 +325,12 @@ module _ (c : ℕ) (tree : Tree) (gens : Generations) (peers : Connected) (sound
 
     pub did_close : (answer : Answer) → answer.reply ≡ Ok ok_payload → answer.door ≡ Closed d → answer.owed ≡ owed → (mid new : Connected) → IsSound new
         → HasRoomFor c message_limit owed mid.queues → crowding c (reply_length (Ok ok_payload)) owed (unsent_of peers.queues) ≡ None
-        → unsent_of mid.queues ≡ unsent_of peers.queues → opens_of mid.txns ≡ opens_of peers.txns
+        → unsent_of mid.queues ≡ unsent_of peers.queues → rests_of mid.queues ≡ rests_of peers.queues → opens_of mid.txns ≡ opens_of peers.txns
         → new.specs ≡ less → new.watched ≡ left
         → new.queues ≡ where_key nat_cmp stays mid.queues
         → new.txns ≡ where_key nat_cmp stays mid.txns
         → DidBeside c peers done tree gens answer new
-    did_close answer replied door sent mid new kept room uncrowded same_bytes same_opens specs watched queues txns =
+    did_close answer replied door sent mid new kept room uncrowded same_bytes same_rests same_opens specs watched queues txns =
         let closes : Closes d (conns_in peers) (conns_in new) = record {
           conn = gone;
           was = conns_ring peers.watched d peers.specs ∙ found;
@@ -345,6 +347,8 @@ module _ (c : ℕ) (tree : Tree) (gens : Generations) (peers : Connected) (sound
               ∙ sym (where_map opens_in stays peers.txns) ∙ opens_less peers sound left stays ∙ (λ i. opens_by (conns_of (sym specs i) (sym watched i)) (opens_of peers.txns));
           door = subst (IsDoor (conns_in peers) (conns_in new)) (sym door) closes;
           unsent = bytes ∙ sym (where_map (λ (q : Queue). q.bytes) stays peers.queues) ∙ unsent_less peers sound stays ∙ ap (λ es. unsent_by es (unsent_of peers.queues)) (sym specs);
+          rests = ap (λ q. rests_of q) queues ∙ where_map (λ (q : Queue). q.rest) stays mid.queues ∙ ap (where_key nat_cmp stays) same_rests
+              ∙ sym (where_map (λ (q : Queue). q.rest) stays peers.queues) ∙ rests_less peers sound stays ∙ ap (λ es. rests_by es (rests_of peers.queues)) (sym specs);
           room = subst (λ o. HasRoomFor c message_limit o new.queues) (sym sent)
               (λ e queue there. room e queue (still e queue (sym (found_where stays e mid.queues) ∙ ap (find nat_cmp e) (sym queues) ∙ there)));
           uncrowded = (λ i. crowding c (reply_length (replied i)) (sent i) (bytes i)) ∙ crowds_left ∙ uncrowded;

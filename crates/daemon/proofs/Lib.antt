@@ -14,6 +14,7 @@ pub mod DomainLemmas
 pub mod WatchLemmas
 pub mod SubmitLemmas
 pub mod TakenLemmas
+pub mod ReservedLemmas
 pub mod OpenTxns
 pub mod DoneLemmas
 pub mod CommandLemmas

@@ -13,7 +13,7 @@ use Rattle.out_queues.specs.Queues.{Queue}
 use Rattle.conn_table.specs.Tables.{Specs, IsTable, IsDomain, is_socket, count_sockets}
 use Rattle.conn_table.proofs.SmallLemmas.{tables_are_small}
 use Rattle.machine_model.specs.declared.bounds.TheConstants.{CROWD_LIMIT}
-use Rattle.conn_rows.specs.Queued.{unsent_of, Moves, PulledFrom}
+use Rattle.conn_rows.specs.Queued.{unsent_of, rests_of, Moves, PulledFrom}
 use Rattle.machine_model.specs.Connections.{caller_of}
 use Rattle.conn_table.specs.Tables.{is_taken, has_its_ring}
 use Rattle.watchers.specs.Watched.{Watched, AreOwn}
@@ -188,6 +188,12 @@ sound_by peers unsent is table belong ids rows short = record {
 module _ (peers : Connected) (sound : IsSound peers) where
   pub ids_unsent : map (λ e. e.0) (unsent_of peers.queues) ≡ map (λ e. e.0) peers.specs
   ids_unsent = unsent_keys peers.queues ∙ sound.ids
+
+  pub ids_rests : map (λ e. e.0) (rests_of peers.queues) ≡ map (λ e. e.0) peers.specs
+  ids_rests = keys_map (λ (q : Queue). q.rest) peers.queues ∙ sound.ids
+
+  pub rising_rests : is_sorted nat_cmp (rests_of peers.queues) ≡ true
+  rising_rests = same_rising (rests_of peers.queues) peers.specs ids_rests ∙ sound.table.table.rising
 
   pub belongs : Belong peers.specs peers.watched
   belongs = (sound.own, sound.watching)

@@ -4,8 +4,10 @@ use Rattle.std.specs.Option.{option_map}
 use Rattle.std.specs.Ordering.{nat_cmp}
 use Rattle.std.specs.FinMap.{find, put}
 use Rattle.std.specs.FinMap.Entries.{where_key}
+use Rattle.xs_model.specs.Wholes.{rest_after}
 use Rattle.xs_model.proofs.Maps.{from_Some, not_Some}
 use Rattle.machine_model.specs.declared.ConnSpec.{ConnSpec}
+use Rattle.machine_model.specs.declared.Globals.{Globals}
 use Rattle.machine_model.specs.Connections.{fresh, ring_of}
 use Rattle.machine_model.specs.Machine.{Machine, Lost}
 use Rattle.machine_model.proofs.KeepLemmas.{with_conn_keeps, step_keeps}
@@ -21,23 +23,24 @@ use Rattle.conn_table.specs.Tables.{Specs, ring_id, is_taken}
 use Rattle.daemon.specs.declared.answer.Pull.TheVariants.{Got, Nothing, Gone}
 use Rattle.watch_table.specs.Tables.{Made, watches_in}
 use Rattle.watchers.specs.Watched.{watching, conns_of}
-use Rattle.daemon.specs.Keeps.{Kept, StandsFor, machine_of, store_of}
+use Rattle.store_parts.specs.Kept.{Kept}
+use Rattle.daemon.specs.Keeps.{StandsFor, machine_of}
 use Rattle.conn_rows.specs.Rows.{opens_in, opens_of}
-use Rattle.conn_rows.specs.Queued.{PulledFrom, unsent_of}
+use Rattle.conn_rows.specs.Queued.{PulledFrom, unsent_of, rests_of}
 use Rattle.daemon.specs.Peers.{Connected, IsSound}
-use Rattle.daemon.specs.Acts.{kept_by}
+use Rattle.daemon.specs.Acts.{kept_by, store_in, IsAsBefore}
 use Rattle.daemon.specs.Submits.{Pulled, Adds, Drops}
 use Rattle.conn_rows.proofs.IdEntries.{put_map, where_map, same_there, none_there, put_again}
 use Rattle.daemon.proofs.KeepsLemmas.{conns_put, conns_without, conns_ring}
 use Rattle.daemon.proofs.OwnLemmas.{none_watched}
 use Rattle.conn_rows.proofs.UnsentBytes.{unsent_found}
-use Rattle.daemon.proofs.PeerLemmas.{untaken, ids_unsent, rising_unsent}
+use Rattle.daemon.proofs.PeerLemmas.{untaken, ids_unsent, ids_rests, rising_unsent, rising_rests}
 use Rattle.daemon.proofs.DoorLemmas.{bare_ring}
 
 -- what follows from some facts on a success
-pub with_all : {T E P Q R U S : Type 0} (r : Result T E) → OnOk r P → OnOk r Q → OnOk r R → OnOk r U → (P → Q → R → U → S) → OnOk r S
-with_all (Ok x) p q r u to = to p q r u
-with_all (Err e) p q r u to = tt
+pub with_all : {T E P Q R U V S : Type 0} (r : Result T E) → OnOk r P → OnOk r Q → OnOk r R → OnOk r U → OnOk r V → (P → Q → R → U → V → S) → OnOk r S
+with_all (Ok x) p q r u v to = to p q r u v
+with_all (Err e) p q r u v to = tt
 
 pub both : {T E : Type 0} (P Q : Type 0) (r : Result T E) → OnOk r P → OnOk r Q → OnOk r (P × Q)
 both P Q (Ok x) p q = (p, q)
@@ -53,19 +56,21 @@ not_there (Ok x) c spec specs h = untaken c spec specs (by (is_taken c spec spec
 not_there (Err e) c spec specs h = tt
 
 -- A CONNECTION IS ADDED
-pub adds : (tree : KeptTree) (old new : Connected) (c : ℕ) (spec : ConnSpec) → 1 ≤ c → IsSound old → find nat_cmp c old.specs ≡ None → new.specs ≡ put nat_cmp c spec old.specs → new.watched ≡ old.watched → unsent_of new.queues ≡ put nat_cmp c [] (unsent_of old.queues) → new.txns ≡ put nat_cmp c [] old.txns → IsSound new
-    → Adds (kept_by tree old) c spec (kept_by tree new)
-adds tree old new c spec positive was absent specs watched bytes txns sound =
+pub adds : (tree : KeptTree) (globals : Globals) (old new : Connected) (c : ℕ) (spec : ConnSpec) → 1 ≤ c → IsSound old → find nat_cmp c old.specs ≡ None → new.specs ≡ put nat_cmp c spec old.specs → new.watched ≡ old.watched → unsent_of new.queues ≡ put nat_cmp c [] (unsent_of old.queues) → rests_of new.queues ≡ put nat_cmp c 0 (rests_of old.queues) → new.txns ≡ put nat_cmp c [] old.txns → IsSound new
+    → Adds (kept_by tree old globals) c spec (kept_by tree new globals)
+adds tree globals old new c spec positive was absent specs watched bytes rests txns sound =
     let opens : opens_of new.txns ≡ put nat_cmp c [] (opens_of old.txns) = ap (λ rows. opens_of rows) txns ∙ put_map opens_in c [] old.txns in
     let made : put nat_cmp c (fresh spec) (conns_of old.specs old.watched) ≡ conns_of (put nat_cmp c spec old.specs) old.watched =
     ap (λ (ws : List Made). put nat_cmp c (watching spec (watches_in ws)) (conns_of old.specs old.watched)) (sym (none_watched old.specs old.watched was.watching c absent)) ∙ conns_put old.watched c spec old.specs
     in
     record {
       unsent = bytes;
+      rests = rests;
       specs = specs;
       watched = watched;
       opens = opens;
       tree = (refl, refl);
+      globals = refl;
       stands = λ m stands. record {
         same = λ i. record {
           machine = record {
@@ -79,14 +84,15 @@ adds tree old new c spec positive was absent specs watched bytes txns sound =
         conn_ids = put_ids m stands.conn_ids c (fresh spec) positive;
         table = sound.table.table;
         ids = ids_unsent new sound;
+        rest_ids = ids_rests new sound;
       };
     }
 
 -- IT IS LOST
-pub drops : (tree : KeptTree) (old new : Connected) (c : ℕ) → IsSound old → new.specs ≡ where_key nat_cmp (λ key. not (c == key)) old.specs → new.queues ≡ where_key nat_cmp (λ key. not (c == key)) old.queues → new.txns ≡ where_key nat_cmp (λ key. not (c == key)) old.txns → new.watched ≡ where_key nat_cmp (λ key. not (c == key)) old.watched → IsSound new
-    → Drops (kept_by tree old) c (kept_by tree new)
-drops tree old new c was specs queues txns watched sound =
-    let store : store_of (kept_by tree new) ≡ (kept_step [] (store_of (kept_by tree old)) (Lost c)).0 =
+pub drops : (tree : KeptTree) (globals : Globals) (old new : Connected) (c : ℕ) → IsSound old → new.specs ≡ where_key nat_cmp (λ key. not (c == key)) old.specs → new.queues ≡ where_key nat_cmp (λ key. not (c == key)) old.queues → new.txns ≡ where_key nat_cmp (λ key. not (c == key)) old.txns → new.watched ≡ where_key nat_cmp (λ key. not (c == key)) old.watched → IsSound new
+    → Drops (kept_by tree old globals) c (kept_by tree new globals)
+drops tree globals old new c was specs queues txns watched sound =
+    let store : store_in tree new ≡ (kept_step [] (store_in tree old) (Lost c)).0 =
     λ i. record {
       machine = record { tree = tree.nodes; gens = tree.gens; conns = ((λ j. conns_of (specs j) (watched j)) ∙ sym (conns_without (λ key. not (c == key)) old.specs old.watched was.table.table.rising)) i };
       opens = (ap (λ rows. opens_of rows) txns ∙ where_map opens_in (λ key. not (c == key)) old.txns) i;
@@ -94,6 +100,8 @@ drops tree old new c was specs queues txns watched sound =
     in
     record {
       unsent = ap unsent_of queues ∙ where_map (λ (q : Queue). q.bytes) (λ key. not (c == key)) old.queues;
+      rests = ap rests_of queues ∙ where_map (λ (q : Queue). q.rest) (λ key. not (c == key)) old.queues;
+      globals = refl;
       store = store;
       stands = λ m stands. record {
         same = (steps_kept laws [] m (Lost c) stands.followed stands.conn_ids).store ∙ ap (λ (k : KeptStore). (kept_step [] k (Lost c)).0) stands.same ∙ sym store;
@@ -101,6 +109,7 @@ drops tree old new c was specs queues txns watched sound =
         conn_ids = step_ids m stands.conn_ids [] (Lost c);
         table = sound.table.table;
         ids = ids_unsent new sound;
+        rest_ids = ids_rests new sound;
       };
     }
 
@@ -123,23 +132,38 @@ same_unsent peers sound c = same_there (unsent_of peers.queues) peers.specs (ids
 pub positive : (n : ℕ) → (n ≡ 0 → ⊥) → 0 < n
 positive n h = omega arith
 
-pub same_kept : (tree : KeptTree) (old new : Connected) → new.specs ≡ old.specs → new.watched ≡ old.watched → new.txns ≡ old.txns → unsent_of new.queues ≡ unsent_of old.queues → kept_by tree new ≡ kept_by tree old
-same_kept tree old new specs watched txns bytes = λ i. record { tree = tree.nodes; gens = tree.gens; specs = specs i; watched = watched i; opens = opens_of (txns i); unsent = bytes i }
+pub same_kept : (tree : KeptTree) (globals : Globals) (old new : Connected) → new.specs ≡ old.specs → new.watched ≡ old.watched → new.txns ≡ old.txns → unsent_of new.queues ≡ unsent_of old.queues → rests_of new.queues ≡ rests_of old.queues
+    → kept_by tree new globals ≡ kept_by tree old globals
+same_kept tree globals old new specs watched txns bytes rests =
+    λ i. record { tree = tree.nodes; gens = tree.gens; globals = globals; specs = specs i; watched = watched i; opens = opens_of (txns i); unsent = bytes i; rests = rests i }
 
-pub same_store : (tree : KeptTree) (old new : Connected) → new.specs ≡ old.specs → new.watched ≡ old.watched → new.txns ≡ old.txns → store_of (kept_by tree new) ≡ store_of (kept_by tree old)
+-- by what a refusal leaves
+pub kept_as_before : (tree : KeptTree) (old : Connected) (tree_new : KeptTree) (new : Connected) → IsAsBefore tree old tree_new new → (globals : Globals) → kept_by tree_new new globals ≡ kept_by tree old globals
+kept_as_before tree old tree_new new same globals = λ i. record {
+  tree = same.nodes i;
+  gens = same.gens i;
+  globals = globals;
+  specs = same.conns.specs i;
+  watched = same.conns.watched i;
+  opens = same.conns.opens i;
+  unsent = same.conns.unsent i;
+  rests = same.conns.rests i;
+}
+
+pub same_store : (tree : KeptTree) (old new : Connected) → new.specs ≡ old.specs → new.watched ≡ old.watched → new.txns ≡ old.txns → store_in tree new ≡ store_in tree old
 same_store tree old new specs watched txns = λ i. record { machine = machine_of tree.nodes tree.gens (specs i) (watched i); opens = opens_of (txns i) }
 
-pub pulled_none : (tree : KeptTree) (old new : Connected) (c : ℕ) (into into_new : List ℕ) → new.specs ≡ old.specs → new.watched ≡ old.watched → new.txns ≡ old.txns → PulledFrom old.queues c into new.queues into_new None → Pulled (kept_by tree old) c into (kept_by tree new) into_new Gone
-pulled_none tree old new c into into_new specs watched txns pulled =
-    (unsent_found c old.queues ∙ ap (option_map (λ (q : Queue). q.bytes)) pulled.0, (same_kept tree old new specs watched txns (ap unsent_of pulled.1.0), pulled.1.1))
+pub pulled_none : (tree : KeptTree) (globals : Globals) (old new : Connected) (c : ℕ) (into into_new : List ℕ) → new.specs ≡ old.specs → new.watched ≡ old.watched → new.txns ≡ old.txns → PulledFrom old.queues c into new.queues into_new None → Pulled (kept_by tree old globals) c into (kept_by tree new globals) into_new Gone
+pulled_none tree globals old new c into into_new specs watched txns pulled =
+    (unsent_found c old.queues ∙ ap (option_map (λ (q : Queue). q.bytes)) pulled.0, (same_kept tree globals old new specs watched txns (ap unsent_of pulled.1.0) (ap rests_of pulled.1.0), pulled.1.1))
 
 nothing_there : (bytes : List ℕ) → length bytes ≡ 0 → bytes ≡ []
 nothing_there [] h = refl
 nothing_there (b ∷ bs) h = absurd (omega arith)
 
-pub pulled_nothing : (tree : KeptTree) (old new : Connected) (c : ℕ) (into into_new : List ℕ) (n : ℕ) → IsSound old → 0 < length into → n ≡ 0 → new.specs ≡ old.specs → new.watched ≡ old.watched → new.txns ≡ old.txns → PulledFrom old.queues c into new.queues into_new (Some n)
-    → Pulled (kept_by tree old) c into (kept_by tree new) into_new Nothing
-pulled_nothing tree old new c into into_new n sound room none specs watched txns moved =
+pub pulled_nothing : (tree : KeptTree) (globals : Globals) (old new : Connected) (c : ℕ) (into into_new : List ℕ) (n : ℕ) → IsSound old → 0 < length into → n ≡ 0 → new.specs ≡ old.specs → new.watched ≡ old.watched → new.txns ≡ old.txns → PulledFrom old.queues c into new.queues into_new (Some n)
+    → Pulled (kept_by tree old globals) c into (kept_by tree new globals) into_new Nothing
+pulled_nothing tree globals old new c into into_new n sound room none specs watched txns moved =
     let unsent = unsent_of old.queues in
     let short : length moved.bytes ≡ 0 = omega (arith, moved.count) in
     let empty = nothing_there moved.bytes short in
@@ -147,26 +171,32 @@ pulled_nothing tree old new c into into_new n sound room none specs watched txns
     let rising = rising_unsent old sound in (
       there,
       (
-        same_kept tree old new specs watched txns (moved.unsent ∙ ap (λ b. put nat_cmp c b unsent) (ap (λ k. drop k moved.bytes) none ∙ empty) ∙ put_again c [] unsent rising there),
+        same_kept tree globals old new specs watched txns (moved.unsent ∙ ap (λ b. put nat_cmp c b unsent) (ap (λ k. drop k moved.bytes) none ∙ empty) ∙ put_again c [] unsent rising there)
+            (moved.rests ∙ ap (λ k. put nat_cmp c (rest_after moved.rest k moved.bytes) (rests_of old.queues)) none ∙ put_again c moved.rest (rests_of old.queues) (rising_rests old sound) moved.was),
         moved.taken ∙ ap (λ k. take k moved.bytes ++ drop k into) none,
       ),
     )
 
-pub pulled_some : (tree : KeptTree) (old new : Connected) (c : ℕ) (into into_new : List ℕ) (n : ℕ) → IsSound new → 0 < n → new.specs ≡ old.specs → new.watched ≡ old.watched → new.txns ≡ old.txns → PulledFrom old.queues c into new.queues into_new (Some n)
-    → Pulled (kept_by tree old) c into (kept_by tree new) into_new (Got n)
-pulled_some tree old new c into into_new n sound some specs watched txns moved = record {
+pub pulled_some : (tree : KeptTree) (globals : Globals) (old new : Connected) (c : ℕ) (into into_new : List ℕ) (n : ℕ) → IsSound new → 0 < n → new.specs ≡ old.specs → new.watched ≡ old.watched → new.txns ≡ old.txns → PulledFrom old.queues c into new.queues into_new (Some n)
+    → Pulled (kept_by tree old globals) c into (kept_by tree new globals) into_new (Got n)
+pulled_some tree globals old new c into into_new n sound some specs watched txns moved = record {
   bytes = moved.bytes;
   there = moved.there;
   some = omega (arith, moved.count);
   count = moved.count;
   taken = moved.taken;
   unsent = moved.unsent;
+  rest = moved.rest;
+  was = moved.was;
+  rests = moved.rests;
+  globals = refl;
   stands = λ m stands. record {
     same = stands.same ∙ sym (same_store tree old new specs watched txns);
     followed = stands.followed;
     conn_ids = stands.conn_ids;
     table = sound.table.table;
     ids = ids_unsent new sound;
+    rest_ids = ids_rests new sound;
   };
 }
 

@@ -8,6 +8,7 @@ use Rattle.xs_model.specs.Messages.{message_bytes, header_of, payload_of}
 use Rattle.xs_model.specs.Requests.{request_of, all_types}
 use Rattle.machine_model.specs.declared.bounds.TheConstants.{HELD_LIMIT}
 use Rattle.machine_model.specs.declared.ConnSpec.{ConnSpec}
+use Rattle.machine_model.specs.declared.Globals.{Globals}
 use Rattle.machine_model.specs.Connections.{Connections, caller_of}
 use Rattle.machine_model.specs.Machine.{Machine, Asked, Send, step, reply_message}
 use Rattle.machine_model.specs.History.{Unsent, sent_to, unsent_to, unsent_after, crowded}
@@ -22,12 +23,13 @@ use Rattle.node_tree.specs.KeptTree.{KeptTree}
 use Rattle.watchers.specs.Watched.{conns_of}
 use Rattle.daemon.specs.declared.answer.Door.{Door}
 use Rattle.daemon.specs.declared.reply.Answer.{Answer}
-use Rattle.daemon.specs.Keeps.{Kept, StandsFor, store_of}
+use Rattle.store_parts.specs.Kept.{Kept}
+use Rattle.daemon.specs.Keeps.{StandsFor, store_of}
 use Rattle.conn_rows.specs.Rows.{opens_of}
-use Rattle.conn_rows.specs.Queued.{unsent_of}
+use Rattle.conn_rows.specs.Queued.{unsent_of, rests_of}
 use Rattle.conn_rows.specs.Sending.{joined_by, sent_by}
 use Rattle.daemon.specs.Peers.{Connected, IsSound, IsSoundTable, conn_in}
-use Rattle.daemon.specs.Acts.{kept_by, reply_length, IsDoor, IsWhole, Did, IsCrowding}
+use Rattle.daemon.specs.Acts.{kept_by, rests_by, reply_length, IsDoor, IsWhole, Did, IsCrowding, store_in}
 use Rattle.daemon.specs.Submits.{kept_after, stepped, Steps, Takes, IsCrowded}
 use Rattle.daemon.proofs.KeepsLemmas.{at_keys, conn_at, conns_keys, conns_found}
 use Rattle.daemon.proofs.ValueLemmas.{same_ids}
@@ -51,14 +53,14 @@ there_unsent peers sound c spec there = by (find nat_cmp c (unsent_of peers.queu
 module _ (tree : KeptTree) (old : Connected) (c : ℕ) (spec : ConnSpec) (head : Header) (payload message : List ℕ) (whole : IsWhole tree old) (there : find nat_cmp c old.specs ≡ Some spec)
     (heads : head ≡ header_of message) (pays : payload ≡ payload_of message) where
   abbrev pub done_for : Header → List ℕ → KeptDone
-  done_for h p = kept_act_or_refuse (store_of (kept_by tree old)) c (conn_in old c spec) h.tx_id (request_of all_types h.kind p (caller_of spec).domid)
+  done_for h p = kept_act_or_refuse (store_in tree old) c (conn_in old c spec) h.tx_id (request_of all_types h.kind p (caller_of spec).domid)
 
   abbrev done : KeptDone
   done = done_for head payload
 
-  steps_so : kept_step all_types (store_of (kept_by tree old)) (Asked c message) ≡ (done.store, (c, reply_message head done.reply) ∷ done.sends)
+  steps_so : kept_step all_types (store_in tree old) (Asked c message) ≡ (done.store, (c, reply_message head done.reply) ∷ done.sends)
   steps_so =
-      ap (kept_step_of all_types (store_of (kept_by tree old)) c message) (conns_found old.watched c old.specs ∙ ap (option_map (conn_at old.watched c)) there)
+      ap (kept_step_of all_types (store_in tree old) c message) (conns_found old.watched c old.specs ∙ ap (option_map (conn_at old.watched c)) there)
       ∙ (λ i. kept_answered c (sym heads i) (done_for (sym heads i) (sym pays i)))
 
   -- it is taken
@@ -80,24 +82,24 @@ module _ (tree : KeptTree) (old : Connected) (c : ℕ) (spec : ConnSpec) (head :
         (ap (λ rows. map (λ e. e.0) (opens_of rows)) txns ∙ ids_open peers did.sound ∙ keys)
         (all_short (unsent_of new.queues) uncrowded)
 
-    step_is : kept_step all_types (store_of (kept_by tree old)) (Asked c message) ≡ (store_of (kept_by tree_new new), (c, reply_message head answer.reply) ∷ done.sends)
+    step_is : kept_step all_types (store_in tree old) (Asked c message) ≡ (store_in tree_new new, (c, reply_message head answer.reply) ∷ done.sends)
     step_is = steps_so ∙ (λ i. ((did.store ∙ sym (same_store tree_new peers new specs watched txns)) i, (c, reply_message head (sym did.reply i)) ∷ done.sends))
 
     pub taken_whole : IsWhole tree_new new
     taken_whole = record {
       sound = taken_sound;
-      store = subst IsKeptStore (ap (λ (s : KeptStore × List Send). s.0) step_is) (steps_keep_stores laws all_types (store_of (kept_by tree old)) (Asked c message) whole.store);
+      store = subst IsKeptStore (ap (λ (s : KeptStore × List Send). s.0) step_is) (steps_keep_stores laws all_types (store_in tree old) (Asked c message) whole.store);
       counter = did.counter;
     }
 
-    pub taken_steps : Steps (kept_by tree old) c message answer.door (kept_by tree_new new)
-    taken_steps =
+    pub taken_steps : rests_of new.queues ≡ rests_of peers.queues → (globals : Globals) → Steps (kept_by tree old globals) c message answer.door (kept_by tree_new new globals)
+    taken_steps rests globals =
         let unsent : Unsent = unsent_of old.queues in
         let conns : Connections = conns_of new.specs new.watched in
         let told : map (λ e. (e.0, unsent_to e.0 unsent)) conns ≡ unsent_of peers.queues =
         same_ids (λ k. unsent_to k unsent) conns peers.specs (conns_keys new.watched new.specs ∙ ap (map (λ e. e.0)) specs) ∙ sym did.unsent
         in
-        let joined : unsent_after (stepped (kept_by tree old) c message) unsent ≡ unsent_of new.queues =
+        let joined : unsent_after (stepped (kept_by tree old globals) c message) unsent ≡ unsent_of new.queues =
         ap (λ (s : KeptStore × List Send). unsent_after (s.0.machine, s.1) unsent) step_is
         ∙ joined_so c (reply_message head answer.reply) done.sends answer.owed unsent did.sends conns
         ∙ (λ i. joined_by c (sym spelled i) answer.owed (told i))
@@ -106,13 +108,15 @@ module _ (tree : KeptTree) (old : Connected) (c : ℕ) (spec : ConnSpec) (head :
         record {
           store = sym (ap (λ (s : KeptStore × List Send). s.0) step_is);
           unsent = sym joined;
+          rests = rests ∙ did.rests ∙ ap (λ es. rests_by es (rests_of old.queues)) (sym specs);
+          globals = refl;
           uncrowded = ap crowded joined ∙ uncrowded;
           door = subst (λ es. IsDoor (conns_of old.specs old.watched) es answer.door) (λ i. conns_of (sym specs i) (sym watched i)) did.door;
         }
 
   -- or somebody would be crowded
-  pub would_crowd : (tree_new : KeptTree) (peers : Connected) (d : ℕ) → IsCrowding c tree old done d tree_new peers → crowded (unsent_after (stepped (kept_by tree old) c message) (unsent_of old.queues)) ≡ Some d
-  would_crowd tree_new peers d k =
+  pub would_crowd : (tree_new : KeptTree) (peers : Connected) (d : ℕ) → IsCrowding c tree old done d tree_new peers → (globals : Globals) → crowded (unsent_after (stepped (kept_by tree old globals) c message) (unsent_of old.queues)) ≡ Some d
+  would_crowd tree_new peers d k globals =
       let unsent : Unsent = unsent_of old.queues in
       let conns : Connections = done.store.machine.conns in
       ap crowded (ap (λ (s : KeptStore × List Send). unsent_after (s.0.machine, s.1) unsent) steps_so ∙ joined_so c (reply_message head done.reply) done.sends k.owed unsent k.sends conns)
@@ -140,8 +144,8 @@ module _ (old : Kept) (c : ℕ) (message : List ℕ) (bytes : List ℕ) (there :
   unsent : unsent_after (step m (Asked c message)) old.unsent ≡ unsent_after (stepped old c message) old.unsent
   unsent = sym (bare_unsent after.conns (step m (Asked c message)).1 old.unsent) ∙ (λ i. unsent_after ((store i).machine, sends i) old.unsent)
 
-  pub takes : (new : Kept) (told : Door) → IsTable new.specs → map (λ e. e.0) new.unsent ≡ map (λ e. e.0) new.specs → Steps old c message told new → Takes old m c message told new
-  takes new told table ids steps =
+  pub takes : (new : Kept) (told : Door) → IsTable new.specs → map (λ e. e.0) new.unsent ≡ map (λ e. e.0) new.specs → map (λ e. e.0) new.rests ≡ map (λ e. e.0) new.specs → Steps old c message told new → Takes old m c message told new
+  takes new told table ids rest_ids steps =
       let same : kept_of after ≡ store_of new = store ∙ sym steps.store in
       record {
         bytes = bytes;
@@ -154,8 +158,11 @@ module _ (old : Kept) (c : ℕ) (message : List ℕ) (bytes : List ℕ) (there :
           conn_ids = step_ids m stands.conn_ids all_types (Asked c message);
           table = table;
           ids = ids;
+          rest_ids = rest_ids;
         };
         unsent = steps.unsent ∙ sym unsent;
+        rests = steps.rests;
+        globals = steps.globals;
         door = door_of_bare m.conns after.conns (step_shape m stands.conn_ids all_types c message) told
             (subst (λ (k : KeptStore). IsDoor (bares m.conns) k.machine.conns told) (sym same)
             (subst (λ (k : KeptStore). IsDoor k.machine.conns (conns_of new.specs new.watched) told) (sym stands.same) steps.door));

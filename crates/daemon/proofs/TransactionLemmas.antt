@@ -30,13 +30,13 @@ use Rattle.node_tree.specs.KeptTree.{KeptTree}
 use Rattle.txn_access.specs.Txns.{Txn}
 use Rattle.daemon.specs.declared.answer.Door.TheVariants.{Same}
 use Rattle.daemon.specs.declared.reply.Answer.{Answer}
-use Rattle.daemon.specs.Keeps.{machine_of, store_of}
+use Rattle.daemon.specs.Keeps.{machine_of}
 use Rattle.conn_rows.specs.Rows.{Rows, Txns, kept_txn, opens_in, opens_of, txns_of}
 use Rattle.watchers.specs.Watched.{Watched, conns_of}
 use Rattle.conn_rows.specs.Queued.{unsent_of}
 use Rattle.conn_rows.specs.Sending.{crowding}
 use Rattle.daemon.specs.Peers.{Connected, IsSound, MayAsk, conn_in}
-use Rattle.daemon.specs.Acts.{kept_by, reply_length, Did, IsCrowding}
+use Rattle.daemon.specs.Acts.{reply_length, Did, IsCrowding, store_in}
 use Rattle.daemon.specs.Changes.{IsMade, WouldCrowd, without_txn}
 use Rattle.conn_rows.proofs.IdEntries.{keys_map}
 use Rattle.daemon.proofs.KeepsLemmas.{conns_keys}
@@ -70,7 +70,7 @@ module _ (tree : Tree) (t : KeptTransaction) (is : IsTree tree) (kept : IsKeptTr
 -- START
 module _ (c tx : ℕ) (tree : KeptTree) (specs : Specs) (watched : Watched) (rows : Rows) (sound : IsSound (connected specs watched rows)) (may : MayAsk c (connected specs watched rows)) (counted : tree.counter ≡ greatest tree.gens) (spec : ConnSpec) (answer : Answer) (door : answer.door ≡ Same) (owes : answer.owed ≡ []) where
   abbrev store : KeptStore
-  store = store_of (kept_by tree (connected specs watched rows))
+  store = store_in tree (connected specs watched rows)
 
   abbrev here : Opens
   here = opens_at c (opens_of rows.txns)
@@ -120,7 +120,7 @@ module _ (c tx : ℕ) (tree : KeptTree) (specs : Specs) (watched : Watched) (row
 
 -- END
 abbrev pub ended : ℕ → ℕ → KeptTree → Connected → Bool → KeptDone
-ended c tx tree peers commit = kept_close commit (store_of (kept_by tree peers)) c tx (opens_at c (opens_of peers.txns)) (find nat_cmp tx (opens_at c (opens_of peers.txns)))
+ended c tx tree peers commit = kept_close commit (store_in tree peers) c tx (opens_at c (opens_of peers.txns)) (find nat_cmp tx (opens_at c (opens_of peers.txns)))
 
 pub apart : {A : Type 0} → false ≡ true → A
 apart e = cc
@@ -131,7 +131,7 @@ module _ (c tx : ℕ) (tree : KeptTree) (specs : Specs) (watched : Watched) (row
   peers = connected specs watched rows
 
   abbrev before : KeptStore
-  before = store_of (kept_by tree peers)
+  before = store_in tree peers
 
   abbrev open_here : Opens
   open_here = opens_at c (opens_of rows.txns)
@@ -183,7 +183,7 @@ module _ (c tx : ℕ) (tree : KeptTree) (specs : Specs) (watched : Watched) (row
       pub end_committed : (answer : Answer) → answer.door ≡ Same → answer.reply ≡ Ok ok_payload → IsMade c (reply_length (Ok ok_payload)) t.marks specs watched tree rows (without_txn c tx rows) answer.owed new left → Did c tree peers (closing true) answer new (connected specs watched left)
       end_committed answer door replied is =
           subst (λ (d : KeptDone). Did c tree peers d answer new (connected specs watched left)) (sym (finishes false free))
-          (has_sent c tree peers sound committing answer replied door new (connected specs watched left) refl refl is.changed.unsent
+          (has_sent c tree peers sound committing answer replied door new (connected specs watched left) refl refl is.changed.unsent is.changed.rests
           (ids_changed t.marks tree new (without_txn c tx rows) left is.changed ∙ ids_closed)
           (ap (λ (os : List (ℕ × Opens)). changed_store (committed tree.nodes t.marks) (written_paths t.marks) (record { machine = machine_of tree.nodes tree.gens specs watched; opens = os })) (sym (opens_closed c tx rows.txns))
           ∙ store_changed t.marks tree new (without_txn c tx rows) left is.changed specs watched) is.changed.counter
@@ -196,7 +196,7 @@ module _ (c tx : ℕ) (tree : KeptTree) (specs : Specs) (watched : Watched) (row
             sends = is.owed.1.owes;
             crowds = ap (crowding c (reply_length (Ok ok_payload)) is.owed.0)
                 (same_ids (λ k. unsent_to k (unsent_of rows.queues)) (conns_of specs watched) specs (conns_keys watched specs) ∙ sym (unsent_same peers sound specs refl)) ∙ is.owed.1.crowds;
-            unchanged = (kept_unchanged tree specs watched rows new left is.unchanged, is.unchanged.counter);
+            unchanged = kept_unchanged tree specs watched rows new left is.unchanged;
           })
 
 -- the one that is open

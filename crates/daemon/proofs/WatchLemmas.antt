@@ -26,19 +26,19 @@ use Rattle.watch_table.specs.Tables.{Made, watch_of, watches_in}
 use Rattle.watchers.specs.Watched.{Watched, or_none, made_by, watching, conns_of}
 use Rattle.daemon.specs.declared.answer.Door.TheVariants.{Same}
 use Rattle.daemon.specs.declared.reply.Answer.{Answer}
-use Rattle.daemon.specs.Keeps.{machine_of, store_of}
+use Rattle.daemon.specs.Keeps.{machine_of}
 use Rattle.conn_rows.specs.Rows.{opens_in, opens_of}
-use Rattle.conn_rows.specs.Queued.{unsent_of}
+use Rattle.conn_rows.specs.Queued.{unsent_of, rests_of}
 use Rattle.conn_rows.specs.Sending.{count_by, HasRoomFor, crowding}
 use Rattle.daemon.specs.Peers.{Connected, IsSound, IsSoundTable, MayAsk, conns_in, conn_in, message_limit}
-use Rattle.daemon.specs.Acts.{kept_by, reply_length, IsDoor, Did, DidBeside}
+use Rattle.daemon.specs.Acts.{reply_length, IsDoor, Did, DidBeside, store_in}
 use Rattle.conn_rows.proofs.IdEntries.{found_at, found_itself, put_map}
 use Rattle.daemon.proofs.KeepsLemmas.{found_where, conns_keys, conns_rewatched}
 use Rattle.daemon.proofs.OwnLemmas.{OfDomain, own_there, own_watched, there_watched, own_cleared, there_cleared}
 use Rattle.daemon.proofs.PeerLemmas.{Belong, sound_by, ids_unsent, rising_unsent, short_unsent}
 use Rattle.daemon.proofs.SendLemmas.{nobody_crowded}
 use Rattle.daemon.proofs.QuietLemmas.{few_unsent, quiet_sends, quiet_room, quiet_crowding}
-use Rattle.daemon.proofs.UnsentLemmas.{unsent_same, opens_same}
+use Rattle.daemon.proofs.UnsentLemmas.{unsent_same, rests_same, opens_same}
 use Rattle.daemon.proofs.OpenTxns.{ids_put}
 use Rattle.daemon.proofs.ActLemmas.{did_same}
 
@@ -126,7 +126,7 @@ module _ (c : ℕ) (tree : Tree) (gens : Generations) (peers : Connected) (sound
   one_more (x ∷ ms) d is h = (h.0, one_more ms d is h.1)
 
   module _ (answer : Answer) (replied : answer.reply ≡ Ok ok_payload) (door : answer.door ≡ Same) (new : Connected) (specs : new.specs ≡ peers.specs)
-      (bytes : unsent_of new.queues ≡ unsent_of peers.queues) (txns : new.txns ≡ peers.txns) where
+      (bytes : unsent_of new.queues ≡ unsent_of peers.queues) (rests : rests_of new.queues ≡ rests_of peers.queues) (txns : new.txns ≡ peers.txns) where
     pub watch_made : list_any (same_watch w) conn.watches ≡ false → may_watch conn ≡ true → (d : ℕ) → d ≡ (caller_of spec).domid → new.watched ≡ put nat_cmp c (had ++ made_one d ∷ []) peers.watched
         → ((e : ℕ) → unsent_to e answer.owed ≡ sent_to e ((c, first_event w) ∷ [])) → length (sent_to c ((c, first_event w) ∷ [])) ≤ 8192 → HasRoomFor c message_limit answer.owed new.queues
         → DidBeside c peers (add_watch m c conn w) tree gens answer new
@@ -147,6 +147,7 @@ module _ (c : ℕ) (tree : Tree) (gens : Generations) (peers : Connected) (sound
           opens = ap (λ rows. opens_of rows) txns ∙ opens_same peers sound new.specs new.watched (ap (map (λ e. e.0)) specs);
           door = subst (IsDoor (conns_in peers) (conns_in new)) (sym door) (door_rewatched peers sound new specs belong bytes ids);
           unsent = bytes ∙ unsent_same peers sound new.specs (ap (map (λ e. e.0)) specs);
+          rests = rests ∙ rests_same peers sound new.specs (ap (map (λ e. e.0)) specs);
           room = room;
           uncrowded = (λ i. crowding c (reply_length (replied i)) answer.owed (bytes i)) ∙ crowding_alone c (reply_length (Ok ok_payload)) answer.owed others (unsent_of peers.queues)
               ∙ nobody_crowded c n (unsent_of peers.queues) (rising_unsent peers sound) (short_unsent peers.queues sound.short) (λ b found. few_more (length b) n (few_unsent c peers may b found) fits);
@@ -198,6 +199,7 @@ module _ (c : ℕ) (tree : Tree) (gens : Generations) (peers : Connected) (sound
         opens = ap (λ rows. opens_of rows) txns ∙ opens_same peers sound new.specs new.watched (ap (map (λ e. e.0)) specs);
         door = subst (IsDoor (conns_in peers) (conns_in new)) (sym door) (door_rewatched peers sound new specs belong bytes ids);
         unsent = bytes ∙ unsent_same peers sound new.specs (ap (map (λ e. e.0)) specs);
+        rests = ap (λ q. rests_of q) queues ∙ rests_same peers sound new.specs (ap (map (λ e. e.0)) specs);
         room = subst (HasRoomFor c message_limit answer.owed) (sym queues) (quiet_room c peers may answer.owed owes);
         uncrowded = (λ i. crowding c (reply_length (replied i)) answer.owed (bytes i)) ∙ quiet_crowding c peers may answer.owed owes sound (reply_length (Ok ok_payload)) (omega arith);
         sound = sound_rewatched peers sound new specs belong bytes ids;
@@ -227,7 +229,7 @@ module _ (c tx : ℕ) (tree : KeptTree) (counted : tree.counter ≡ greatest tre
       ap (λ (ws : List Made). put nat_cmp c (watching spec (watches_in ws)) (conns_in peers)) (sym none_left)
       ∙ conns_rewatched c spec peers.specs peers.watched cleared sound.table.table.rising there others_stay
 
-  pub did_reset : Did c tree peers (kept_act (store_of (kept_by tree peers)) c (conn_in peers c spec) tx model.ResetWatches) answer tree new
+  pub did_reset : Did c tree peers (kept_act (store_in tree peers) c (conn_in peers c spec) tx model.ResetWatches) answer tree new
   did_reset =
       let belong : Belong peers.specs new.watched = subst (λ (l : Watched). Belong peers.specs l) (sym watched) (own_cleared (λ key. not (c == key)) peers.specs peers.watched sound.own, there_cleared (λ key. not (c == key)) peers.specs peers.watched sound.watching) in
       let bytes : unsent_of new.queues ≡ unsent_of peers.queues = ap (λ q. unsent_of q) queues in
@@ -247,6 +249,7 @@ module _ (c tx : ℕ) (tree : KeptTree) (counted : tree.counter ≡ greatest tre
         counter = counted;
         door = subst (IsDoor (conns_in peers) (conns_in new)) (sym door) (door_rewatched peers sound new specs belong bytes ids);
         unsent = bytes ∙ unsent_same peers sound new.specs (ap (map (λ e. e.0)) specs);
+        rests = ap (λ q. rests_of q) queues ∙ rests_same peers sound new.specs (ap (map (λ e. e.0)) specs);
         room = subst (HasRoomFor c message_limit answer.owed) (sym queues) (quiet_room c peers may answer.owed owes);
         uncrowded = (λ i. crowding c (reply_length (replied i)) answer.owed (bytes i)) ∙ quiet_crowding c peers may answer.owed owes sound (reply_length (Ok ok_payload)) (omega arith);
         sound = kept;

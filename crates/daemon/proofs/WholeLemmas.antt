@@ -8,17 +8,18 @@ use Rattle.xs_model.specs.Trees.{Tree, IsTree}
 use Rattle.xs_model.specs.Generations.{greatest}
 use Rattle.xs_model.proofs.Maps.{all_put, all_where}
 use Rattle.machine_model.specs.declared.bounds.TheConstants.{CROWD_LIMIT}
+use Rattle.machine_model.specs.History.{Unsent}
 use Rattle.machine_model.specs.Limits.{HasIds}
 use Rattle.mark_model.specs.Stores.{Opens, IsKeptTransaction, IsKeptStore}
 use Rattle.conn_table.specs.Tables.{Specs}
 use Rattle.node_tree.specs.KeptTree.{KeptTree}
 use Rattle.out_queues.specs.Queues.{Queue}
 use Rattle.watchers.specs.Watched.{Watched, conns_of}
-use Rattle.daemon.specs.Keeps.{Kept, store_of}
+use Rattle.daemon.specs.Keeps.{machine_of}
 use Rattle.conn_rows.specs.Rows.{opens_in, opens_of}
 use Rattle.conn_rows.specs.Queued.{unsent_of}
 use Rattle.daemon.specs.Peers.{Connected, IsSound, IsSoundTable}
-use Rattle.daemon.specs.Acts.{kept_by, IsWhole, IsAsBefore}
+use Rattle.daemon.specs.Acts.{IsWhole, IsAsBefore, store_in}
 use Rattle.conn_rows.proofs.IdEntries.{put_map, where_map}
 use Rattle.daemon.proofs.KeepsLemmas.{conns_keys, conns_rising}
 use Rattle.daemon.proofs.PeerLemmas.{Belong, belong_same, belongs, positive_ids, unsent_keys, short_unsent, ids_unsent}
@@ -51,7 +52,7 @@ none_open : (specs : Specs) (watched : Watched) → AllByRecursion (λ e. e.1.tr
 none_open [] watched = tt
 none_open (e ∷ es) watched = (refl, none_open es watched)
 
-store_kept : (tree : KeptTree) (peers : Connected) → IsSound peers → IsTree tree.nodes → (opens : List (ℕ × Opens)) → opens_of peers.txns ≡ opens → AllByRecursion (λ e. AreKept tree.nodes e.1) opens → IsKeptStore (store_of (kept_by tree peers))
+store_kept : (tree : KeptTree) (peers : Connected) → IsSound peers → IsTree tree.nodes → (opens : List (ℕ × Opens)) → opens_of peers.txns ≡ opens → AllByRecursion (λ e. AreKept tree.nodes e.1) opens → IsKeptStore (store_in tree peers)
 store_kept tree peers sound is_tree opens same each = record {
   tree = is_tree;
   ids = conns_ids peers.specs peers.watched sound.table;
@@ -87,15 +88,17 @@ module _ (tree : KeptTree) (old : Connected) (whole : IsWhole tree old) (new : C
 -- nothing has changed but memory
 pub whole_as_before : (tree : KeptTree) (old : Connected) → IsWhole tree old → (tree_new : KeptTree) (new : Connected) → IsAsBefore tree old tree_new new → IsWhole tree_new new
 whole_as_before tree old whole tree_new new as_before =
-    let same : kept_by tree_new new ≡ kept_by tree old = as_before.0 in
-    let specs : new.specs ≡ old.specs = ap (λ (k : Kept). k.specs) same in
-    let keys : map (λ e. e.0) old.specs ≡ map (λ e. e.0) new.specs = ap (map (λ e. e.0)) (sym specs) in
+    let kept = as_before.conns in
+    let keys : map (λ e. e.0) old.specs ≡ map (λ e. e.0) new.specs = ap (map (λ e. e.0)) (sym kept.specs) in
+    let store : store_in tree_new new ≡ store_in tree old =
+    λ i. record { machine = machine_of (as_before.nodes i) (as_before.gens i) (kept.specs i) (kept.watched i); opens = kept.opens i }
+    in
     record {
-      sound = sound_kept new (subst IsSoundTable (sym specs) whole.sound.table)
-          (belong_same old.specs new.specs old.watched new.watched specs (ap (λ (k : Kept). k.watched) same) (belongs old whole.sound))
-          (ap (λ (k : Kept). map (λ e. e.0) k.unsent) same ∙ ids_unsent old whole.sound ∙ keys)
-          (ap (λ (k : Kept). map (λ e. e.0) k.opens) same ∙ ids_open old whole.sound ∙ keys)
-          (subst (λ (k : Kept). AllByRecursion (λ e. length e.1 ≤ CROWD_LIMIT) k.unsent) (sym same) (short_unsent old.queues whole.sound.short));
-      store = subst (λ (k : Kept). IsKeptStore (store_of k)) (sym same) whole.store;
-      counter = as_before.1 ∙ whole.counter ∙ ap (λ (k : Kept). greatest k.gens) (sym same);
+      sound = sound_kept new (subst IsSoundTable (sym kept.specs) whole.sound.table)
+          (belong_same old.specs new.specs old.watched new.watched kept.specs kept.watched (belongs old whole.sound))
+          (ap (λ (es : Unsent). map (λ e. e.0) es) kept.unsent ∙ ids_unsent old whole.sound ∙ keys)
+          (ap (λ (es : List (ℕ × Opens)). map (λ e. e.0) es) kept.opens ∙ ids_open old whole.sound ∙ keys)
+          (subst (λ (es : Unsent). AllByRecursion (λ e. length e.1 ≤ CROWD_LIMIT) es) (sym kept.unsent) (short_unsent old.queues whole.sound.short));
+      store = subst IsKeptStore (sym store) whole.store;
+      counter = as_before.counter ∙ whole.counter ∙ ap greatest (sym as_before.gens);
     }

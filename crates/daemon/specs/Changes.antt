@@ -16,7 +16,7 @@ use Rattle.mark_model.specs.Stores.{noted_all}
 use Rattle.conn_table.specs.Tables.{Specs}
 use Rattle.watchers.specs.Watched.{Watched, conns_of}
 use Rattle.conn_rows.specs.Rows.{Rows, opens_of, txns_of}
-use Rattle.conn_rows.specs.Queued.{unsent_of}
+use Rattle.conn_rows.specs.Queued.{unsent_of, rests_of}
 use Rattle.conn_rows.specs.Sending.{HasRoomFor, crowding}
 use Rattle.daemon.specs.Peers.{message_limit}
 use Rattle.daemon.specs.declared.change.Made.{Made}
@@ -29,6 +29,7 @@ pub record IsChanged (marks : Marks) (tree : KeptTree) (rows : Rows) (tree_new :
   pub counter : tree_new.counter ≡ greatest tree_new.gens
   pub opens : opens_of rows_new.txns ≡ noted_all tree.nodes (changed_paths tree.nodes (written_paths marks) tree_new.nodes) (opens_of rows.txns)
   pub unsent : unsent_of rows_new.queues ≡ unsent_of rows.queues
+  pub rests : rests_of rows_new.queues ≡ rests_of rows.queues
 
 -- nothing has changed but memory
 pub record IsUnchanged (tree : KeptTree) (rows : Rows) (tree_new : KeptTree) (rows_new : Rows) : Type 0 where
@@ -37,6 +38,7 @@ pub record IsUnchanged (tree : KeptTree) (rows : Rows) (tree_new : KeptTree) (ro
   pub counter : tree_new.counter ≡ tree.counter
   pub opens : opens_of rows_new.txns ≡ opens_of rows.txns
   pub unsent : unsent_of rows_new.queues ≡ unsent_of rows.queues
+  pub rests : rests_of rows_new.queues ≡ rests_of rows.queues
 
 -- what the change owes to each connection of a table
 abbrev pub Owes : Marks → KeptTree → Specs → Watched → Unsent → Type 0

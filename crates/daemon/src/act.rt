@@ -7,9 +7,8 @@ ghost use Rattle.xs_model.specs.Requests.{request_of, all_types};
 ghost use Rattle.machine_model.specs.Connections.{caller_of};
 ghost use Rattle.mark_model.specs.Stores.{kept_act, kept_act_or_refuse};
 ghost use Rattle.wire_codec.specs.Codec.{AsksInForm, request_view};
-ghost use Rattle.daemon.specs.Acts.{IsAnswered, IsShort, IsAsBefore, IsWhole, kept_by};
+ghost use Rattle.daemon.specs.Acts.{IsAnswered, IsShort, IsAsBefore, IsWhole, store_in};
 ghost use Rattle.daemon.specs.Asks.{WatchesInForm};
-ghost use Rattle.daemon.specs.Keeps.{store_of};
 ghost use Rattle.daemon.specs.Peers.{MayAsk, conn_in};
 
 use crate::domains::{self, Asker};
@@ -34,7 +33,7 @@ pub fn answer(
     requires there { find nat_cmp asker.conn peers.old.specs ≡ Some asker.spec }
     requires may { MayAsk asker.conn peers.old }
     ensures ok { IfOk result (λ answered. IsAnswered asker.conn tree.old peers.old
-        (kept_act_or_refuse (store_of (kept_by tree.old peers.old)) asker.conn (conn_in peers.old asker.conn asker.spec) head.tx_id (request_of all_types head.kind payload.now (caller_of asker.spec).domid))
+        (kept_act_or_refuse (store_in tree.old peers.old) asker.conn (conn_in peers.old asker.conn asker.spec) head.tx_id (request_of all_types head.kind payload.now (caller_of asker.spec).domid))
         answered tree.new peers.new) }
     ensures short { IfOk result IsShort }
     ensures err { OnErr result (IsAsBefore tree.old peers.old tree.new peers.new) }
@@ -62,7 +61,7 @@ fn act(
     requires form { AsksInForm request.now }
     requires watch { WatchesInForm (caller_of asker.spec).domid (request_view request.now) }
     ensures ok { IfOk result (λ answered. IsAnswered asker.conn tree.old peers.old
-        (kept_act (store_of (kept_by tree.old peers.old)) asker.conn (conn_in peers.old asker.conn asker.spec) tx_id (request_view request.now))
+        (kept_act (store_in tree.old peers.old) asker.conn (conn_in peers.old asker.conn asker.spec) tx_id (request_view request.now))
         answered tree.new peers.new) }
     ensures short { IfOk result IsShort }
     ensures err { OnErr result (IsAsBefore tree.old peers.old tree.new peers.new) }
@@ -120,7 +119,7 @@ fn on_tree(
     requires may { MayAsk asker.conn peers.old }
     requires form { AsksInForm (Request.Command command.now) }
     ensures ok { IfOk result (λ answered. IsAnswered asker.conn tree.old peers.old
-        (kept_act (store_of (kept_by tree.old peers.old)) asker.conn (conn_in peers.old asker.conn asker.spec) tx_id (request_view (Request.Command command.now)))
+        (kept_act (store_in tree.old peers.old) asker.conn (conn_in peers.old asker.conn asker.spec) tx_id (request_view (Request.Command command.now)))
         answered tree.new peers.new) }
     ensures short { IfOk result IsShort }
     ensures err { OnErr result (IsAsBefore tree.old peers.old tree.new peers.new) }

@@ -8,7 +8,7 @@ ghost use Rattle.std.specs.Ordering.{nat_cmp};
 ghost use Rattle.xs_model.specs.Generations.{greatest};
 ghost use Rattle.xs_model.specs.Trees.{IsTree};
 ghost use Rattle.mark_model.specs.Marks.{committed, written_paths};
-ghost use Rattle.conn_rows.specs.Queued.{unsent_of};
+ghost use Rattle.conn_rows.specs.Queued.{unsent_of, rests_of};
 ghost use Rattle.conn_rows.specs.Rows.{ArePlanned, opens_of, txns_of};
 ghost use Rattle.conn_rows.specs.Sending.{HasRoomFor};
 ghost use Rattle.watchers.specs.Watched.{AreOwn};
@@ -85,6 +85,7 @@ fn reserve(
     ensures room { OnOk result (HasRoomFor conn message_limit owed.now rows.new.queues) }
     ensures opens { opens_of rows.new.txns ≡ opens_of rows.old.txns }
     ensures unsent { unsent_of rows.new.queues ≡ unsent_of rows.old.queues }
+    ensures rests { rests_of rows.new.queues ≡ rests_of rows.old.queues }
 {
     rows.plan_notes(tree, &plan.changed)?;
     rows.reserve_all(conn, MESSAGE_MAX, owed)

@@ -9,10 +9,9 @@ ghost use Rattle.machine_model.specs.Connections.{caller_of};
 ghost use Rattle.mark_model.specs.Marks.{overlay, write_all};
 ghost use Rattle.mark_model.specs.Stores.{kept_act};
 ghost use Rattle.wire_codec.specs.Codec.{IsInForm, request_view, operation_of};
-ghost use Rattle.daemon.specs.Acts.{Did as HasDone, IsAnswered, IsShort, IsAsBefore, IsWhole, kept_by};
+ghost use Rattle.daemon.specs.Acts.{Did as HasDone, IsAnswered, IsShort, IsAsBefore, IsWhole, store_in};
 ghost use Rattle.daemon.specs.Commands.{IsRun, IsInside};
 ghost use Rattle.conn_rows.specs.Rows.{kept_txn};
-ghost use Rattle.daemon.specs.Keeps.{store_of};
 ghost use Rattle.daemon.specs.Peers.{MayAsk, conn_in};
 
 use crate::answer::Door;
@@ -71,7 +70,7 @@ pub fn outside(
     requires may { MayAsk asker.conn peers.old }
     requires form { IsInForm command.now }
     ensures ok { IfOk result (λ answered. IsAnswered asker.conn tree.old peers.old
-        (kept_act (store_of (kept_by tree.old peers.old)) asker.conn (conn_in peers.old asker.conn asker.spec) 0 (request_view (Request.Command command.now))) answered tree.new peers.new) }
+        (kept_act (store_in tree.old peers.old) asker.conn (conn_in peers.old asker.conn asker.spec) 0 (request_view (Request.Command command.now))) answered tree.new peers.new) }
     ensures short { IfOk result IsShort }
     ensures err { OnErr result (IsAsBefore tree.old peers.old tree.new peers.new) }
 {
@@ -151,7 +150,7 @@ pub fn inside(
     requires form { IsInForm command.now }
     requires inside { 1 ≤ tx_id }
     ensures ok { IfOk result (λ answer. HasDone asker.conn tree.now peers.old
-        (kept_act (store_of (kept_by tree.now peers.old)) asker.conn (conn_in peers.old asker.conn asker.spec) tx_id (request_view (Request.Command command.now))) answer tree.now peers.new) }
+        (kept_act (store_in tree.now peers.old) asker.conn (conn_in peers.old asker.conn asker.spec) tx_id (request_view (Request.Command command.now))) answer tree.now peers.new) }
     ensures short { IfOk result (λ answer. IfOk answer.reply (λ payload. length payload ≤ 4096)) }
     ensures err { OnErr result (IsAsBefore tree.now peers.old tree.now peers.new) }
 {

@@ -3,7 +3,8 @@
 
 ghost use Rattle.machine_model.specs.Machine.{Machine};
 ghost use Rattle.machine_model.specs.Serial.{IsSerial};
-ghost use Rattle.daemon.specs.Keeps.{Kept, StandsFor};
+ghost use Rattle.store_parts.specs.Kept.{Kept};
+ghost use Rattle.daemon.specs.Keeps.{StandsFor};
 
 /// In every sequential store that a daemon stands for, a transaction that is not in conflict would get of the current tree
 /// what it got of its copy.

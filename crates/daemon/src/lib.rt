@@ -28,4 +28,5 @@ mod watches;
 pub use answer::{Door, Pull, Submit};
 pub use conn_table::{AddErr, ConnSpec, Conns};
 pub use service::Daemon;
+pub use store_parts::{Globals, PartsRef};
 pub use xs_base::NoMemory;

@@ -9,7 +9,7 @@ ghost use Rattle.xs_model.specs.Wholes.{whole_behind};
 ghost use Rattle.out_queues.specs.Queues.{Queue};
 ghost use Rattle.machine_model.specs.Connections.{with_evtchn, with_target, fresh, least_free};
 ghost use Rattle.conn_table.specs.Tables.{IsTable, ring_id, ring_domid, is_taken, has_its_ring, is_socket, count_sockets};
-ghost use Rattle.conn_rows.specs.Queued.{HasRoom, PulledFrom, unsent_of};
+ghost use Rattle.conn_rows.specs.Queued.{HasRoom, PulledFrom, unsent_of, rests_of};
 ghost use Rattle.conn_rows.specs.Sending.{HasRoomFor, crowding, joined_by};
 ghost use Rattle.machine_model.specs.declared.bounds.TheConstants.{HELD_LIMIT};
 ghost use Rattle.machine_model.specs.History.{sent_to, unsent_to};
@@ -80,6 +80,7 @@ impl Peers {
     pub fn add(&mut self, conn: u32, spec: ConnSpec) -> Result<(), AddErr>
         ensures specs { OnOk result (self.new.specs ≡ put nat_cmp conn spec self.old.specs) }
         ensures bytes { OnOk result (unsent_of self.new.queues ≡ put nat_cmp conn [] (unsent_of self.old.queues)) }
+        ensures rests { OnOk result (rests_of self.new.queues ≡ put nat_cmp conn 0 (rests_of self.old.queues)) }
         ensures others { OnOk result ((other : ℕ) → (other == conn) ≡ false → find nat_cmp other self.new.queues ≡ find nat_cmp other self.old.queues) }
         ensures txns { OnOk result (self.new.txns ≡ put nat_cmp conn [] self.old.txns) }
         ensures watched { self.new.watched ≡ self.old.watched }
@@ -104,6 +105,7 @@ impl Peers {
         requires none { ring_id domid self.old.specs ≡ None }
         ensures specs { OnOk result (self.new.specs ≡ put nat_cmp (least_free self.old.specs) (ConnSpec.Ring domid None evtchn) self.old.specs) }
         ensures bytes { OnOk result (unsent_of self.new.queues ≡ put nat_cmp (least_free self.old.specs) [] (unsent_of self.old.queues)) }
+        ensures rests { OnOk result (rests_of self.new.queues ≡ put nat_cmp (least_free self.old.specs) 0 (rests_of self.old.queues)) }
         ensures others { OnOk result ((other : ℕ) → (other == least_free self.old.specs) ≡ false → find nat_cmp other self.new.queues ≡ find nat_cmp other self.old.queues) }
         ensures txns { OnOk result (self.new.txns ≡ put nat_cmp (least_free self.old.specs) [] self.old.txns) }
         ensures watched { self.new.watched ≡ self.old.watched }
@@ -175,6 +177,7 @@ impl Peers {
         ensures ok { OnOk result (HasRoom conn bytes self.new.queues) }
         ensures specs { self.new.specs ≡ self.old.specs }
         ensures bytes { unsent_of self.new.queues ≡ unsent_of self.old.queues }
+        ensures rests { rests_of self.new.queues ≡ rests_of self.old.queues }
         ensures txns { self.new.txns ≡ self.old.txns }
         ensures watched { self.new.watched ≡ self.old.watched }
         ensures sound { IsSound self.old → IsSound self.new }
@@ -188,6 +191,7 @@ impl Peers {
         ensures ok { OnOk result (HasRoomFor conn message_limit owed.now self.new.queues) }
         ensures specs { self.new.specs ≡ self.old.specs }
         ensures bytes { unsent_of self.new.queues ≡ unsent_of self.old.queues }
+        ensures rests { rests_of self.new.queues ≡ rests_of self.old.queues }
         ensures txns { self.new.txns ≡ self.old.txns }
         ensures watched { self.new.watched ≡ self.old.watched }
         ensures sound { IsSound self.new }
@@ -222,6 +226,7 @@ impl Peers {
         requires room { HasRoomFor conn (length reply.now) owed.now self.old.queues }
         ensures specs { self.new.specs ≡ self.old.specs }
         ensures bytes { unsent_of self.new.queues ≡ joined_by conn reply.now owed.now (unsent_of self.old.queues) }
+        ensures rests { rests_of self.new.queues ≡ rests_of self.old.queues }
         ensures txns { self.new.txns ≡ self.old.txns }
         ensures watched { self.new.watched ≡ self.old.watched }
     {

@@ -8,10 +8,11 @@ ghost use Rattle.machine_model.specs.declared.bounds.TheConstants.{HELD_LIMIT};
 ghost use Rattle.machine_model.specs.Connections.{ring_of};
 ghost use Rattle.machine_model.specs.Machine.{Machine, new_machine};
 ghost use Rattle.conn_table.specs.Tables.{IsTable, is_taken, is_socket, count_sockets};
-ghost use Rattle.daemon.specs.Keeps.{StandsFor};
+ghost use Rattle.store_parts.specs.Kept.{kept_lent};
+ghost use Rattle.daemon.specs.Keeps.{StandsFor, no_globals};
 ghost use Rattle.conn_rows.specs.Queued.{unsent_of};
 ghost use Rattle.daemon.specs.Peers.{IsInBounds, IsSoundTable};
-ghost use Rattle.daemon.specs.Acts.{IsWhole, kept_by};
+ghost use Rattle.daemon.specs.Acts.{IsAsBefore, IsWhole, kept_by};
 ghost use Rattle.daemon.specs.Submits.{StepsIfDone, Submits, Pulled, Adds, Drops};
 
 use crate::act::answer;
@@ -24,6 +25,7 @@ use machine_model::HELD_LIMIT;
 use node_tree::Tree;
 use std::alloc::Global;
 use std::marker::Model;
+use store_parts::{Globals, PartsRef};
 use xs_base::NoMemory;
 
 /// The store, and the bytes that it has still to send.
@@ -34,26 +36,29 @@ pub struct Daemon {
     alloc: Global,
     tree: Tree,
     peers: Peers,
+    globals: Globals,
     // Room for a reply.
     reply: [u8; 4112],
 }
 
 impl Model for Daemon {
-    ghost use Rattle.daemon.specs.Keeps.{Kept};
+    ghost use Rattle.store_parts.specs.Kept.{Kept};
     ghost use Rattle.daemon.specs.Acts.{IsWhole, kept_by};
 
     ghost Value = { Kept };
 
-    ghost view = { λ daemon. kept_by daemon.tree daemon.peers };
+    ghost view = { λ daemon. kept_by daemon.tree daemon.peers daemon.globals };
 
     ghost invariant = { λ daemon. IsWhole daemon.tree daemon.peers };
 }
 
 impl Daemon {
-    /// A new store, to which domain 0 is connected with the id 1.
+    /// A new store, to which domain 0 is connected with the id 1. It has none of the two descriptors.
     pub fn new(alloc: Global) -> Result<Daemon, NoMemory>
         ensures stands { IfOk result (λ daemon. StandsFor daemon new_machine) }
         ensures unsent { IfOk result (λ daemon. daemon.unsent ≡ (1, []) ∷ []) }
+        ensures rests { IfOk result (λ daemon. daemon.rests ≡ (1, 0) ∷ []) }
+        ensures globals { IfOk result (λ daemon. daemon.globals ≡ no_globals) }
     {
         let mut peers = Peers::new(alloc);
         peers.open(0, 0)?;
@@ -61,6 +66,10 @@ impl Daemon {
             alloc,
             tree: Tree::new(alloc)?,
             peers,
+            globals: Globals {
+                rw_socket_fd: -1,
+                evtchn_fd: -1,
+            },
             reply: [0; MESSAGE_MAX],
         })
     }
@@ -159,6 +168,19 @@ impl Daemon {
     {
         self.peers.conns()
     }
+
+    /// The parts of the store, as they are kept. O(1).
+    pub fn parts(&self) -> PartsRef<'_>
+        ensures { kept_lent result ≡ self.now }
+    {
+        PartsRef {
+            conns: &self.peers.conns,
+            watchers: &self.peers.watchers,
+            rows: &self.peers.rows,
+            tree: &self.tree,
+            globals: self.globals,
+        }
+    }
 }
 
 /// Takes one whole request of a connection that is there and has few unsent bytes. All memory for what it is answered and
@@ -175,10 +197,11 @@ fn submit_to(
     requires whole { IsWhole tree.old peers.old }
     requires there { find nat_cmp asker.conn peers.old.specs ≡ Some asker.spec }
     requires few { (bytes : List ℕ) → find nat_cmp asker.conn (unsent_of peers.old.queues) ≡ Some bytes → length bytes < HELD_LIMIT }
-    ensures step { IfOk result (StepsIfDone (kept_by tree.old peers.old) asker.conn message.now (kept_by tree.new peers.new)) }
-    ensures ok { IfOk result (Submits (kept_by tree.old peers.old) asker.conn message.now (kept_by tree.new peers.new)) }
+    // Whatever the descriptors are.
+    ensures step { (globals : Globals) → IfOk result (StepsIfDone (kept_by tree.old peers.old globals) asker.conn message.now (kept_by tree.new peers.new globals)) }
+    ensures ok { (globals : Globals) → IfOk result (Submits (kept_by tree.old peers.old globals) asker.conn message.now (kept_by tree.new peers.new globals)) }
     ensures whole { IsWhole tree.new peers.new }
-    ensures err { OnErr result (kept_by tree.new peers.new ≡ kept_by tree.old peers.old) }
+    ensures err { OnErr result (IsAsBefore tree.old peers.old tree.new peers.new) }
 {
     peers.reserve(asker.conn, MESSAGE_MAX)?;
     let head = head_of(message);

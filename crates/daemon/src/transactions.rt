@@ -10,8 +10,7 @@ ghost use Rattle.machine_model.specs.Machine.{transaction_limit};
 ghost use Rattle.mark_model.specs.Stores.{kept_act};
 ghost use Rattle.node_tree.specs.KeptTree.{KeptTree};
 ghost use Rattle.conn_rows.specs.Rows.{txns_of};
-ghost use Rattle.daemon.specs.Acts.{Did, IsAnswered, IsShort, IsAsBefore, IsWhole, kept_by};
-ghost use Rattle.daemon.specs.Keeps.{store_of};
+ghost use Rattle.daemon.specs.Acts.{Did, IsAnswered, IsShort, IsAsBefore, IsWhole, store_in};
 ghost use Rattle.daemon.specs.Peers.{IsSound, MayAsk, conn_in};
 ghost use Rattle.mark_model.specs.Marks.{has_conflict};
 
@@ -54,7 +53,7 @@ pub fn start(alloc: Global, peers: &mut Peers, asker: Asker, tx_id: u32) -> Resu
     requires there { find nat_cmp asker.conn peers.old.specs ≡ Some asker.spec }
     requires may { MayAsk asker.conn peers.old }
     ensures ok { IfOk result (λ answer. (tree : KeptTree) → tree.counter ≡ greatest tree.gens
-        → Did asker.conn tree peers.old (kept_act (store_of (kept_by tree peers.old)) asker.conn (conn_in peers.old asker.conn asker.spec) tx_id model.Start) answer tree peers.new) }
+        → Did asker.conn tree peers.old (kept_act (store_in tree peers.old) asker.conn (conn_in peers.old asker.conn asker.spec) tx_id model.Start) answer tree peers.new) }
     ensures short { IfOk result (λ answer. IfOk answer.reply (λ payload. length payload ≤ 4096)) }
     ensures err { OnErr result (peers.new ≡ peers.old) }
 {
@@ -84,7 +83,7 @@ pub fn end(
     requires there { find nat_cmp asker.conn peers.old.specs ≡ Some asker.spec }
     requires may { MayAsk asker.conn peers.old }
     ensures ok { IfOk result (λ answered. IsAnswered asker.conn tree.old peers.old
-        (kept_act (store_of (kept_by tree.old peers.old)) asker.conn (conn_in peers.old asker.conn asker.spec) tx_id (model.End commit)) answered tree.new peers.new) }
+        (kept_act (store_in tree.old peers.old) asker.conn (conn_in peers.old asker.conn asker.spec) tx_id (model.End commit)) answered tree.new peers.new) }
     ensures short { IfOk result IsShort }
     ensures err { OnErr result (IsAsBefore tree.old peers.old tree.new peers.new) }
 {
@@ -108,7 +107,7 @@ fn forget(alloc: Global, peers: &mut Peers, asker: Asker, tx_id: u32) -> Result<
     requires may { MayAsk asker.conn peers.old }
     requires open { is_some (find nat_cmp tx_id (txns_of asker.conn peers.old.txns)) ≡ true }
     ensures ok { IfOk result (λ answer. (tree : KeptTree) → tree.counter ≡ greatest tree.gens
-        → Did asker.conn tree peers.old (kept_act (store_of (kept_by tree peers.old)) asker.conn (conn_in peers.old asker.conn asker.spec) tx_id (model.End false)) answer tree peers.new) }
+        → Did asker.conn tree peers.old (kept_act (store_in tree peers.old) asker.conn (conn_in peers.old asker.conn asker.spec) tx_id (model.End false)) answer tree peers.new) }
     ensures short { IfOk result (λ answer. IfOk answer.reply (λ payload. length payload ≤ 4096)) }
     ensures err { OnErr result (peers.new ≡ peers.old) }
 {
@@ -131,7 +130,7 @@ fn commit_open(
     requires open { is_some (find nat_cmp tx_id (txns_of asker.conn peers.old.txns)) ≡ true }
     requires free { IfSome (find nat_cmp tx_id (txns_of asker.conn peers.old.txns)) (λ txn. has_conflict txn.marks ≡ false) }
     ensures ok { IfOk result (λ answered. IsAnswered asker.conn tree.old peers.old
-        (kept_act (store_of (kept_by tree.old peers.old)) asker.conn (conn_in peers.old asker.conn asker.spec) tx_id (model.End true)) answered tree.new peers.new) }
+        (kept_act (store_in tree.old peers.old) asker.conn (conn_in peers.old asker.conn asker.spec) tx_id (model.End true)) answered tree.new peers.new) }
     ensures short { IfOk result IsShort }
     ensures err { OnErr result (IsAsBefore tree.old peers.old tree.new peers.new) }
 {

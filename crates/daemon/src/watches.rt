@@ -11,8 +11,8 @@ ghost use Rattle.machine_model.specs.Connections.{caller_of};
 ghost use Rattle.machine_model.specs.Machine.{act, may_watch};
 ghost use Rattle.mark_model.specs.Stores.{kept_act};
 ghost use Rattle.node_tree.specs.KeptTree.{KeptTree};
-ghost use Rattle.daemon.specs.Acts.{Did, DidBeside, IsSameKept, kept_by};
-ghost use Rattle.daemon.specs.Keeps.{machine_of, store_of};
+ghost use Rattle.daemon.specs.Acts.{Did, DidBeside, IsSameKept, store_in};
+ghost use Rattle.daemon.specs.Keeps.{machine_of};
 ghost use Rattle.daemon.specs.Peers.{IsSound, MayAsk, conn_in};
 
 use crate::answer::Door;
@@ -101,7 +101,7 @@ pub fn reset(alloc: Global, peers: &mut Peers, asker: Asker) -> Result<Answer, N
     requires there { find nat_cmp asker.conn peers.old.specs ≡ Some asker.spec }
     requires may { MayAsk asker.conn peers.old }
     ensures ok { IfOk result (λ answer. (tree : KeptTree) (tx : ℕ) → tree.counter ≡ greatest tree.gens
-        → Did asker.conn tree peers.old (kept_act (store_of (kept_by tree peers.old)) asker.conn (conn_in peers.old asker.conn asker.spec) tx model.ResetWatches) answer tree peers.new) }
+        → Did asker.conn tree peers.old (kept_act (store_in tree peers.old) asker.conn (conn_in peers.old asker.conn asker.spec) tx model.ResetWatches) answer tree peers.new) }
     ensures short { IfOk result (λ answer. IfOk answer.reply (λ payload. length payload ≤ 4096)) }
     ensures err { OnErr result (peers.new ≡ peers.old) }
 {

@@ -15,6 +15,7 @@ use Rattle.id_map.specs.Ids.{above, first_id}
 use Rattle.conn_table.specs.Tables.{Specs, ring_id, has_distinct_rings}
 use Rattle.world_model.specs.Worlds.{Guest, ring_domid, with_fresh_guests}
 use Rattle.world_laws.proofs.EntryLemmas.{not_none, none_of, found_same, found_other}
+use Rattle.store_parts.specs.Kept.{Kept as KeptByDaemon}
 use Rattle.daemon.specs.Keeps as daemon
 use Rattle.world_core.proofs.SpecLemmas.{ring_as, domids_as}
 use Rattle.world_core.specs.Guests.{ring_domids, with_fresh_page, with_ring, with_rings}
@@ -111,13 +112,13 @@ rings_found d c ((id, Ring domid target evtchn) ∷ es) rings distinct h =
     ]
 
 -- A START
-pub begins : (store : daemon.Kept) (inboxes : List (ℕ × List ℕ)) (new : Kept) → new.daemon ≡ store → new.inboxes ≡ inboxes → new.guests ≡ with_fresh_guests (ring_domids store.specs) [] → new.rings ≡ with_rings store.specs [] → Begins store inboxes new
+pub begins : (store : KeptByDaemon) (inboxes : List (ℕ × List ℕ)) (new : Kept) → new.daemon ≡ store → new.inboxes ≡ inboxes → new.guests ≡ with_fresh_guests (ring_domids store.specs) [] → new.rings ≡ with_rings store.specs [] → Begins store inboxes new
 begins store inboxes new same_daemon same_inboxes guests rings = record {
   stands = λ m globals channels stands of_inboxes of_unsent order. record {
     store = subst (λ kept. daemon.StandsFor kept m) (sym same_daemon) stands;
     guests = ap (λ ds. with_fresh_guests ds []) (domids_as store m stands) ∙ sym guests;
     inboxes = of_inboxes ∙ sym same_inboxes;
-    unsent = of_unsent ∙ ap (λ (kept : daemon.Kept). kept.unsent) (sym same_daemon);
+    unsent = of_unsent ∙ ap (λ (kept : KeptByDaemon). kept.unsent) (sym same_daemon);
     order = order;
     rings = λ d c h. ap (find nat_cmp d) rings ∙ rings_found d c store.specs [] stands.table.rings (sym (ring_as store m stands d) ∙ h);
   };

@@ -13,6 +13,7 @@ use Rattle.world_model.specs.declared.Said.TheVariants as said
 use Rattle.world_model.specs.Fronts.{Front, Whole, TooLong, Part, front, is_part}
 use Rattle.world_model.specs.Worlds.{World, Served, Told, Event, told, served, server_event, event_with, intake_at, intake_event, intake_ring, do_at, do_event, do_message, do_step, done_unless, dropped, channels_after, unsent_of}
 use Rattle.daemon.specs.declared.answer.Door.{Door}
+use Rattle.store_parts.specs.Kept.{Kept as KeptByDaemon}
 use Rattle.daemon.specs.Keeps as daemon
 use Rattle.daemon.specs.Peers.{IsSoundTable}
 use Rattle.daemon.specs.Submits.{Takes, IsHeld, IsCrowded}
@@ -125,11 +126,11 @@ pub same_kept : (old new : Kept) → new.daemon ≡ old.daemon → new.inboxes �
 same_kept old new a b c d e = λ i. record { daemon = a i; inboxes = b i; guests = c i; rings = d i; taken = e i }
 
 -- other seats with the same tables
-abbrev pub kept_with : daemon.Kept → Seats → List ℕ → Kept
+abbrev pub kept_with : KeptByDaemon → Seats → List ℕ → Kept
 kept_with store seats taken =
     record { daemon = store; inboxes = seats.ins.entries; guests = seats.guests.entries; rings = seats.rings.entries; taken = taken }
 
-pub same_seats : (store : daemon.Kept) (old new : Seats) (taken : List ℕ) → IsSame (tables_of old) (tables_of new) → kept_with store new taken ≡ kept_with store old taken
+pub same_seats : (store : KeptByDaemon) (old new : Seats) (taken : List ℕ) → IsSame (tables_of old) (tables_of new) → kept_with store new taken ≡ kept_with store old taken
 same_seats store old new taken same = same_kept (kept_with store old taken) (kept_with store new taken) refl same.inboxes same.guests same.rings refl
 
 same_tables : (a b : Tables) → a.inboxes ≡ b.inboxes → a.guests ≡ b.guests → a.rings ≡ b.rings → a ≡ b
@@ -162,13 +163,13 @@ module _ (old new : Kept) (d c : ℕ) where
         (subst (λ tables. SeatsFollow new.daemon door tables (record { inboxes = new.inboxes; guests = new.guests; rings = new.rings }))
         (same_tables mid (record { inboxes = put nat_cmp at.conn (drop n at.channel.inbox) old.inboxes; guests = old.guests; rings = old.rings }) skipped same_guests same_rings) follow)
 
-    pub acts_held : (after : daemon.Kept) (u : ℕ) → IsHeld old.daemon c u after → new ≡ old → Acts old d c (do_message all_types n) new (said.Held u)
+    pub acts_held : (after : KeptByDaemon) (u : ℕ) → IsHeld old.daemon c u after → new ≡ old → Acts old d c (do_message all_types n) new (said.Held u)
     acts_held after u holds same w at stands h conn =
         held old new w d at n stands h u
         (subst (λ k. IsHeld old.daemon k u new.daemon) (sym conn)
         (record { bytes = holds.bytes; there = holds.there; number = holds.number; many = holds.many; same = ap (λ (k : Kept). k.daemon) same })) same
 
-    pub acts_crowded : (after : daemon.Kept) (e : ℕ) → ((m : Machine) → daemon.StandsFor old.daemon m → IsCrowded old.daemon m c message e after) → new ≡ old → Acts old d c (do_message all_types n) new (said.Crowded e)
+    pub acts_crowded : (after : KeptByDaemon) (e : ℕ) → ((m : Machine) → daemon.StandsFor old.daemon m → IsCrowded old.daemon m c message e after) → new ≡ old → Acts old d c (do_message all_types n) new (said.Crowded e)
     acts_crowded after e is same w at stands h conn =
         let found = is w.machine stands.store in
         crowds old new w d at n stands h e

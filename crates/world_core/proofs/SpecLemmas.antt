@@ -11,6 +11,7 @@ use Rattle.machine_model.specs.Machine.{Machine}
 use Rattle.mark_model.specs.Stores.{KeptStore, without_transactions}
 use Rattle.conn_table.specs.Tables.{Specs, specs_of, ring_id}
 use Rattle.world_model.specs.Worlds.{ring_domid}
+use Rattle.store_parts.specs.Kept.{Kept as KeptByDaemon}
 use Rattle.daemon.specs.Keeps as daemon
 use Rattle.watchers.specs.Watched.{Watched, conns_of}
 use Rattle.conn_rows.proofs.IdEntries.{keys_map}
@@ -35,7 +36,7 @@ specs_watching : (specs : Specs) (watched : Watched) → specs_of (conns_of spec
 specs_watching [] watched = refl
 specs_watching (e ∷ es) watched = ap (λ specs. e ∷ specs) (specs_watching es watched)
 
-module _ (kept : daemon.Kept) (m : Machine) (store : daemon.StandsFor kept m) where
+module _ (kept : KeptByDaemon) (m : Machine) (store : daemon.StandsFor kept m) where
   -- the other ends are those of the table
   pub specs_are : specs_of m.conns ≡ kept.specs
   specs_are = sym (specs_without m.conns) ∙ ap (λ (k : KeptStore). specs_of k.machine.conns) store.same ∙ specs_watching kept.specs kept.watched

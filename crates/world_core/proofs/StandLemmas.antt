@@ -20,6 +20,7 @@ use Rattle.world_laws.proofs.ConnLemmas.{ends, OneRingEach, ring_is}
 use Rattle.world_laws.proofs.EntryLemmas.{each_is_found}
 use Rattle.daemon.specs.declared.answer.Door.{Door}
 use Rattle.daemon.specs.declared.answer.Door.TheVariants.{Same, Opened, Closed}
+use Rattle.store_parts.specs.Kept.{Kept as KeptByDaemon}
 use Rattle.daemon.specs.Keeps as daemon
 use Rattle.daemon.specs.Peers.{IsSoundTable}
 use Rattle.daemon.specs.Submits.{Takes, Drops}
@@ -46,7 +47,7 @@ guest_changed old new w d g stands same_daemon same_inboxes guests same_rings = 
   store = subst (λ k. daemon.StandsFor k w.machine) (sym same_daemon) stands.store;
   guests = ap (put nat_cmp d g) stands.guests ∙ sym guests;
   inboxes = stands.inboxes ∙ sym same_inboxes;
-  unsent = stands.unsent ∙ ap (λ (k : daemon.Kept). k.unsent) (sym same_daemon);
+  unsent = stands.unsent ∙ ap (λ (k : KeptByDaemon). k.unsent) (sym same_daemon);
   order = stands.order;
   rings = kept_rings old new w stands same_rings;
 }
@@ -67,7 +68,7 @@ inbox_changed old new w c channel i stands there same_daemon inboxes same_guests
   store = subst (λ k. daemon.StandsFor k w.machine) (sym same_daemon) stands.store;
   guests = stands.guests ∙ sym same_guests;
   inboxes = put_map inbox c (record { inbox = i; unsent = channel.unsent; rest = channel.rest }) w.channels ∙ ap (put nat_cmp c i) stands.inboxes ∙ sym inboxes;
-  unsent = unsent_stays w c channel i stands.order there ∙ stands.unsent ∙ ap (λ (k : daemon.Kept). k.unsent) (sym same_daemon);
+  unsent = unsent_stays w c channel i stands.order there ∙ stands.unsent ∙ ap (λ (k : KeptByDaemon). k.unsent) (sym same_daemon);
   order = sorted_put nat_cmp nat_cmp_total c (record { inbox = i; unsent = channel.unsent; rest = channel.rest }) w.channels stands.order;
   rings = kept_rings old new w stands same_rings;
 }
@@ -83,7 +84,7 @@ unsent_changed old new w c channel u rest stands there store bytes same_inboxes 
 }
 
 -- THE CONNECTIONS of a store have the ids of the table, and of what is unsent
-module _ (kept : daemon.Kept) (m : Machine) (store : daemon.StandsFor kept m) where
+module _ (kept : KeptByDaemon) (m : Machine) (store : daemon.StandsFor kept m) where
   pub ids_of_table : ids m.conns ≡ ids kept.specs
   ids_of_table = ids_as kept m store
 

@@ -7,7 +7,7 @@ use Rattle.world_model.specs.Worlds.{Guest, fresh_guest}
 use Rattle.conn_table.specs.Tables.{ring_id}
 use Rattle.daemon.specs.declared.answer.Door.{Door}
 use Rattle.daemon.specs.declared.answer.Door.TheVariants.{Same, Opened, Closed}
-use Rattle.daemon.specs.Keeps as daemon
+use Rattle.store_parts.specs.Kept.{Kept as KeptByDaemon}
 use Rattle.world_core.specs.declared.seats.Seats.{Seats}
 
 -- the inboxes by connection, the pages by domid, and the ring connection that each domain had last
@@ -45,7 +45,7 @@ pub record IsUnseated (c : ℕ) (old new : Tables) : Type 0 where
   pub rings : new.rings ≡ old.rings
 
 -- by the door, and by the ring connections that the daemon has then
-abbrev pub Follows : daemon.Kept → Door → Tables → Tables → Type 0
+abbrev pub Follows : KeptByDaemon → Door → Tables → Tables → Type 0
 Follows kept Same old new = IsSame old new
 Follows kept (Opened d) old new = (c : ℕ) → ring_id d kept.specs ≡ Some c → IsSeated d c (fresh_guest 0) old new
 Follows kept (Closed d) old new = (c : ℕ) → find nat_cmp d old.rings ≡ Some c → IsUnseated c old new

@@ -9,12 +9,13 @@ use Rattle.machine_model.specs.Machine.{Machine}
 use Rattle.world_model.specs.declared.Said.{Said}
 use Rattle.world_model.specs.declared.Said.TheVariants.{NoMemory, Got}
 use Rattle.world_model.specs.Worlds.{World, Guest, Channel, Served, served, Event, Send, Put, Intake, Do, Out, Take, Poke, ShowPage, Handover, Told, event_with, ring_domid, with_fresh_guests, unsent_of, add_domain}
+use Rattle.store_parts.specs.Kept.{Kept as KeptByDaemon}
 use Rattle.daemon.specs.Keeps as daemon
 
 -- the store with what is unsent, the inboxes by connection, the guests by domid, the ring connection that each domain
 -- had last, and the bytes of the last take
 pub record Kept : Type 0 where
-  pub daemon : daemon.Kept
+  pub daemon : KeptByDaemon
   pub inboxes : List (ℕ × List ℕ)
   pub guests : List (ℕ × Guest)
   pub rings : List (ℕ × ℕ)
@@ -44,7 +45,7 @@ begun m globals channels = record {
   channels = channels;
 }
 
-pub record Begins (store : daemon.Kept) (inboxes : List (ℕ × List ℕ)) (new : Kept) : Type 0 where
+pub record Begins (store : KeptByDaemon) (inboxes : List (ℕ × List ℕ)) (new : Kept) : Type 0 where
   pub stands : (m : Machine) (globals : Globals) (channels : List (ℕ × Channel)) → daemon.StandsFor store m
       → inboxes_of channels ≡ inboxes → unsent_of channels ≡ store.unsent → is_sorted nat_cmp channels ≡ true → StandsFor new (begun m globals channels)
 

@@ -7,9 +7,8 @@ use Rattle.mark_model.specs.Stores.{KeptStore, kept_act_or_refuse}
 use Rattle.wire_codec.specs.declared.request.RequestErr.{RequestErr}
 use Rattle.wire_codec.specs.Codec.{IsRequest, request_view}
 use Rattle.daemon.specs.Asks.{WatchesInForm}
-use Rattle.daemon.specs.Keeps.{store_of}
 use Rattle.daemon.specs.Peers.{conn_in}
-use Rattle.daemon.specs.Acts.{kept_by, IsAnswered}
+use Rattle.daemon.specs.Acts.{IsAnswered, store_in}
 use Rattle.daemon.proofs.ActLemmas.{asker_bound, refused_request}
 use Rattle.daemon.proofs.AskLemmas.{read_in_form}
 use Rattle.daemon.proofs.act.answer.Goals as goal
@@ -52,7 +51,7 @@ returns-in-Ok-clause-ok c =
     let head = c.args.head in
     let payload = c.args.payload.now in
     let asker = c.args.asker in
-    let k : KeptStore = store_of (kept_by tree peers) in
+    let k : KeptStore = store_in tree peers in
     let asked : request_of all_types head.kind payload (caller_of asker.spec).domid ≡ Ok (request_view c.in-Ok.request) =
     ap (request_of all_types head.kind payload) (sym c.domid.ensures) ∙ c.in-Ok.ensures.asked
     in

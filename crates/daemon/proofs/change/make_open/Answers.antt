@@ -7,7 +7,7 @@ use Rattle.txn_access.specs.Plans.{IsPlan}
 use Rattle.txn_access.specs.Txns.{Txn, Plans}
 use Rattle.daemon.specs.Changes.{IsMade, IsWeighed, without_txn}
 use Rattle.daemon.specs.Peers.{message_limit}
-use Rattle.conn_rows.specs.Queued.{unsent_of}
+use Rattle.conn_rows.specs.Queued.{unsent_of, rests_of}
 use Rattle.conn_rows.specs.Sending.{HasRoomFor}
 use Rattle.conn_rows.specs.Rows.{ArePlanned, opens_of}
 use Rattle.daemon.proofs.OpenTxns.{same_open, still_open, same_closed, each_closed, planned_room}
@@ -64,7 +64,8 @@ returns-clause-ok c =
           changed c.in_ok-plan.ensures.ok.changed (without_txn conn tx rows) left (opens_of c.take.new.self.txns)
           (c.apply_notes.ensures.noted ready.nodes changed planned)
           (ap opens_of closed ∙ same_closed conn tx rows.txns c.reserve.new.rows.txns kept)
-          (ap unsent_of queues ∙ c.reserve.ensures.unsent);
+          (ap unsent_of queues ∙ c.reserve.ensures.unsent)
+          (ap rests_of queues ∙ c.reserve.ensures.rests);
       owed = owed_on conn n txn.marks specs watched ready old c.prepare.ensures.nodes rows c.in-Done.owed None (subst (IsWeighed conn n txn.marks specs watched ready rows) c.in-Done.is c.in_ok-conn.ensures);
       room = subst (HasRoomFor conn message_limit c.in-Done.owed) (sym queues) c.in_ok-reserve.ensures.room;
     })

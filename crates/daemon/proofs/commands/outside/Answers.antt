@@ -6,9 +6,8 @@ use Rattle.mark_model.specs.Stores.{kept_outside}
 use Rattle.wire_codec.specs.Codec.{operation_of}
 use Rattle.daemon.specs.declared.answer.Door.TheVariants.{Same}
 use Rattle.daemon.specs.declared.reply.Answer.{Answer}
-use Rattle.daemon.specs.Acts.{Did, IsCrowding, IsWhole, kept_by}
+use Rattle.daemon.specs.Acts.{Did, IsCrowding, IsWhole, store_in}
 use Rattle.daemon.specs.Changes.{IsMadeOr, IsSendable}
-use Rattle.daemon.specs.Keeps.{store_of}
 use Rattle.daemon.specs.Peers.{Connected, MayAsk}
 use Rattle.conn_rows.specs.Rows.{Rows}
 use Rattle.daemon.proofs.PeerLemmas.{connected}
@@ -59,7 +58,7 @@ returns-in-Crowded-clause-ok c =
     let outcome = command operation path (caller_of spec) (generation_of tree.gens path) tree.nodes in
     let new = c.make.new.tree in
     let left = c.make.new.rows in
-    subst (λ (p : Connected). IsCrowding conn tree p (kept_outside (store_of (kept_by tree p)) outcome) c.in-Crowded.conn new (connected specs watched left)) c.peers.view_is
+    subst (λ (p : Connected). IsCrowding conn tree p (kept_outside (store_in tree p) outcome) c.in-Crowded.conn new (connected specs watched left)) c.peers.view_is
     (outside_crowded conn tree specs watched rows whole may spec operation path c.unwrap_or-number.result number c.start-txn.result c.start-txn.ensures c.run_over.new.txn c.in_ok-did.did c.in_ok-did.ensures.ok
     c.reply_length.result c.reply_length.ensures.value new left c.in-Crowded.conn
     (subst (λ m. IsMadeOr conn c.reply_length.result c.run_over.new.txn.marks specs watched tree rows rows m new left) c.in-Crowded.is c.in_ok-conn.ensures.ok))
@@ -81,7 +80,7 @@ returns-clause-ok c =
     let new = c.make.new.tree in
     let left = c.make.new.rows in
     let answer : Answer = record { reply = c.in_ok-did.did.reply; door = Same; owed = c.in-Done.owed } in
-    subst (λ (p : Connected). Did conn tree p (kept_outside (store_of (kept_by tree p)) outcome) answer new (connected specs watched left)) c.peers.view_is
+    subst (λ (p : Connected). Did conn tree p (kept_outside (store_in tree p) outcome) answer new (connected specs watched left)) c.peers.view_is
     (outside_written conn tree specs watched rows whole may spec operation path c.unwrap_or-number.result number c.start-txn.result c.start-txn.ensures c.run_over.new.txn c.in_ok-did.did c.in_ok-did.ensures.ok
     c.reply_length.result c.reply_length.ensures.value new left answer refl refl
     (subst (λ m. IsMadeOr conn c.reply_length.result c.run_over.new.txn.marks specs watched tree rows rows m new left) c.in-Done.is c.in_ok-conn.ensures.ok))

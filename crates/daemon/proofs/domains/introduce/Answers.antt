@@ -74,5 +74,6 @@ returns-clause-ok c = λ tree gens tx.
     (c.in_ok-open.ensures.specs ∙ ap (λ (ss : Specs). put nat_cmp (least_free ss) ring ss) same)
     (c.open.ensures.watched ∙ c.reserve_all.ensures.watched)
     (c.in_ok-open.ensures.bytes ∙ (λ i. put nat_cmp (least_free (same i)) [] (c.reserve_all.ensures.bytes i)))
+    (c.in_ok-open.ensures.rests ∙ (λ i. put nat_cmp (least_free (same i)) 0 (c.reserve_all.ensures.rests i)))
     (λ other apart. c.in_ok-open.ensures.others other (ap (λ (ss : Specs). other == least_free ss) same ∙ apart))
     (ap (λ rows. opens_of rows) c.in_ok-open.ensures.txns ∙ put_map opens_in (least_free mid.specs) [] mid.txns ∙ (λ i. put nat_cmp (least_free (same i)) [] (opens_of (c.reserve_all.ensures.txns i))))

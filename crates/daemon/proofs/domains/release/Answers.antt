@@ -80,7 +80,7 @@ returns-clause-ok c = λ tree gens tx.
     let new = c.remove.new.self in
     let answer : Answer = record { reply = Ok c.in_ok-done.done; door = Closed domid; owed = owed } in
     did_close asks tree gens peers sound spec there control domid gone ring c.requires.not_control found done owed c.in_ok-owed.ensures acted answer (ap Ok c.in_ok-done.ensures) refl refl mid new (c.remove.ensures.sound c.reserve_all.ensures.sound)
-    c.in_ok-reserve_all.ensures.ok (sym c.in_default-crowding.ensures) c.reserve_all.ensures.bytes (ap (λ rows. opens_of rows) c.reserve_all.ensures.txns)
+    c.in_ok-reserve_all.ensures.ok (sym c.in_default-crowding.ensures) c.reserve_all.ensures.bytes c.reserve_all.ensures.rests (ap (λ rows. opens_of rows) c.reserve_all.ensures.txns)
     (c.remove.ensures.specs ∙ ap (where_key nat_cmp (λ key. not (gone == key))) c.reserve_all.ensures.specs)
     (c.remove.ensures.watched ∙ ap (where_key nat_cmp (λ key. not (gone == key))) c.reserve_all.ensures.watched)
     c.remove.ensures.queues c.remove.ensures.txns

@@ -4,8 +4,7 @@ use Rattle.std.specs.FinMap.{find}
 use Rattle.xs_model.specs.declared.message.WireErr.{WireErr}
 use Rattle.machine_model.specs.Machine.{transaction_limit}
 use Rattle.mark_model.specs.Stores.{kept_start, opens_of as opens_at}
-use Rattle.daemon.specs.Acts.{Did, kept_by}
-use Rattle.daemon.specs.Keeps.{store_of}
+use Rattle.daemon.specs.Acts.{Did, store_in}
 use Rattle.daemon.specs.Peers.{Connected, IsSound, MayAsk, conn_in}
 use Rattle.conn_rows.specs.Rows.{Rows, opens_of, txns_of}
 use Rattle.conn_rows.proofs.IdEntries.{same_there}
@@ -48,7 +47,7 @@ returns-clause-ok c = λ tree counted.
     let may : MayAsk conn (connected specs watched rows) = subst (MayAsk conn) (sym c.peers.view_is) c.requires.may in
     let there = subst (λ (p : Connected). find nat_cmp conn p.specs ≡ Some spec) (sym c.peers.view_is) c.requires.there in
     let few : length (txns_of conn rows.txns) < transaction_limit spec = subst (λ (n : ℕ). length (txns_of conn rows.txns) < n) c.limit.ensures (subst (λ (n : ℕ). n < c.limit.result) c.open_count.ensures c.if-open_count-limit.false) in
-    subst (λ (p : Connected). Did conn tree p (kept_start (store_of (kept_by tree p)) conn (conn_in p conn spec) c.args.tx_id (opens_at conn (opens_of p.txns))) c.of.result tree (connected specs watched c.open.new.self)) c.peers.view_is
+    subst (λ (p : Connected). Did conn tree p (kept_start (store_in tree p) conn (conn_in p conn spec) c.args.tx_id (opens_at conn (opens_of p.txns))) c.of.result tree (connected specs watched c.open.new.self)) c.peers.view_is
     (start_opened conn c.args.tx_id tree specs watched rows sound may counted spec c.of.result c.of.ensures.door c.of.ensures.owed c.if-tx_id-ne0.false few there c.free_number-free.result c.free_number-free.ensures.value
     (c.of.ensures.reply ∙ ap Ok c.in_ok-payload.ensures) c.open.new.self c.open.ensures.queues c.in_ok-open.ensures.ok)
 

@@ -3,8 +3,7 @@ use Rattle.std.specs.Ordering.{nat_cmp}
 use Rattle.std.specs.FinMap.{find}
 use Rattle.xs_model.specs.Requests as model
 use Rattle.mark_model.specs.Stores.{kept_act}
-use Rattle.daemon.specs.Acts.{Did, kept_by}
-use Rattle.daemon.specs.Keeps.{store_of}
+use Rattle.daemon.specs.Acts.{Did, store_in}
 use Rattle.daemon.specs.Peers.{Connected, IsSound, MayAsk, conn_in}
 use Rattle.conn_rows.proofs.IdEntries.{same_there}
 use Rattle.daemon.proofs.PeerLemmas.{connected}
@@ -30,6 +29,6 @@ returns-clause-ok c = λ tree tx counted.
     let sound : IsSound (connected specs watched rows) = subst IsSound (sym c.peers.view_is) c.requires.sound in
     let may : MayAsk conn (connected specs watched rows) = subst (MayAsk conn) (sym c.peers.view_is) c.requires.may in
     let there = subst (λ (p : Connected). find nat_cmp conn p.specs ≡ Some spec) (sym c.peers.view_is) c.requires.there in
-    subst (λ (p : Connected). Did conn tree p (kept_act (store_of (kept_by tree p)) conn (conn_in p conn spec) tx model.ResetWatches) c.of.result tree new) c.peers.view_is
+    subst (λ (p : Connected). Did conn tree p (kept_act (store_in tree p) conn (conn_in p conn spec) tx model.ResetWatches) c.of.result tree new) c.peers.view_is
     (did_reset conn tx tree counted (connected specs watched rows) sound may spec there c.of.result (c.of.ensures.reply ∙ ap Ok c.in_ok-done.ensures) c.of.ensures.door c.of.ensures.owed new
     refl c.close_all.ensures.queues c.close_all.ensures.txns c.clear.ensures)

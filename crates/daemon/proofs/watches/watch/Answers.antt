@@ -1,11 +1,11 @@
-use Rattle.std.proofs.Common.{◌≡◌, ◌≤◌, ℕ, true, false, Ok, [], ◌∷◌, ◌++◌, refl, sym, ap, subst, ◌∙◌}
+use Rattle.std.proofs.Common.{◌≡◌, ◌≤◌, ℕ, Ok, [], ◌∷◌, ◌++◌, refl, sym, ap, subst, ◌∙◌}
 use Rattle.std.specs.List.{list_any}
 use Rattle.std.specs.Ordering.{nat_cmp}
 use Rattle.std.specs.FinMap.{put}
 use Rattle.xs_model.specs.Watches.{Watch, same_watch}
 use Rattle.watch_table.specs.Tables.{watch_of}
 use Rattle.watchers.specs.Watched.{made_by, watches_of}
-use Rattle.conn_rows.specs.Queued.{unsent_of}
+use Rattle.conn_rows.specs.Queued.{unsent_of, rests_of}
 use Rattle.conn_rows.specs.Sending.{HasRoomFor}
 use Rattle.daemon.specs.declared.answer.Door.TheVariants.{Same}
 use Rattle.daemon.specs.declared.reply.Answer.{Answer}
@@ -46,6 +46,7 @@ returns-clause-ok c = λ tree gens tx.
     watch_made conn tree gens here c.requires.sound c.requires.may spec c.requires.there c.args.wpath.now c.args.token.now answer (ap Ok c.in_ok-copy.ensures) refl new
     (ap (λ (p : Connected). p.specs) c.peers-2.view_is ∙ c.reserve_all.ensures.specs)
     (ap (λ (p : Connected). unsent_of p.queues) c.peers-2.view_is ∙ c.reserve_all.ensures.bytes)
+    (ap (λ (p : Connected). rests_of p.queues) c.peers-2.view_is ∙ c.reserve_all.ensures.rests)
     (ap (λ (p : Connected). p.txns) c.peers-2.view_is ∙ c.reserve_all.ensures.txns)
     is_new (sym c.may_watch.ensures ∙ c.if-not-may_watch.false) c.domid.result c.domid.ensures
     (c.in_ok-add.ensures.ok ∙ (λ i. put nat_cmp conn (made_by conn (was i) ++ record { watch = watch_of (c.in_ok-wpath.ensures i) (c.in_ok-token.ensures i); domid = c.domid.result } ∷ []) (was i)))

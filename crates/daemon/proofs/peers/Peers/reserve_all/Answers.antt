@@ -1,4 +1,4 @@
-use Rattle.std.proofs.Common.{ℕ, ◌≤◌, refl, sym, subst}
+use Rattle.std.proofs.Common.{◌≤◌, refl, sym, subst}
 use Rattle.std.specs.List.{AllByRecursion}
 use Rattle.daemon.specs.Peers.{Connected, IsSound}
 use Rattle.daemon.proofs.PeerLemmas.{connected, ids_positive, sound_same}

@@ -1,4 +1,4 @@
-use Rattle.std.proofs.Common.{ℕ, sym, subst}
+use Rattle.std.proofs.Common.{sym, subst}
 use Rattle.watchers.specs.Watched.{AreOwn}
 use Rattle.daemon.specs.Peers.{Connected}
 use Rattle.daemon.proofs.peers.Peers.special_owed.Goals as goal

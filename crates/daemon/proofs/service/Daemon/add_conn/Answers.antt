@@ -1,6 +1,6 @@
 use Rattle.std.proofs.Common.{◌≡◌, ◌<◌, true, OnOk, sym, subst}
 use Rattle.conn_table.specs.Tables.{is_socket, count_sockets}
-use Rattle.daemon.specs.Keeps.{Kept}
+use Rattle.store_parts.specs.Kept.{Kept}
 use Rattle.daemon.specs.Acts.{kept_by}
 use Rattle.daemon.specs.Submits.{Adds}
 use Rattle.daemon.proofs.SubmitLemmas.{adds, with_all, both, not_there}
@@ -11,10 +11,11 @@ pub returns-clause-ok : goal.returns-clause-ok
 returns-clause-ok c =
     let tree = c.self.inside.tree in
     let peers = c.self.inside.peers in
+    let globals = c.self.inside.globals in
     let sockets : is_socket c.args.spec ≡ true → count_sockets peers.specs < 65536 = subst (λ (k : Kept). is_socket c.args.spec ≡ true → count_sockets k.specs < 65536) (sym c.self.view_is) c.requires.sockets in
-    subst (λ (k : Kept). OnOk c.add.result (Adds k c.args.id c.args.spec (kept_by tree c.add.new.self))) c.self.view_is
-    (with_all c.add.result (both _ _ c.add.result (not_there c.add.result c.args.id c.args.spec peers.specs c.add.ensures.taken) c.add.ensures.specs) c.add.ensures.bytes c.add.ensures.txns c.add.ensures.sound
-    (λ specs bytes txns sound. adds tree peers c.add.new.self c.args.id c.args.spec c.requires.id c.self.invariant.sound specs.0 specs.1 c.add.ensures.watched bytes txns (sound c.self.invariant.sound c.requires.id c.requires.bounds sockets)))
+    subst (λ (k : Kept). OnOk c.add.result (Adds k c.args.id c.args.spec (kept_by tree c.add.new.self globals))) c.self.view_is
+    (with_all c.add.result (both _ _ c.add.result (not_there c.add.result c.args.id c.args.spec peers.specs c.add.ensures.taken) c.add.ensures.specs) c.add.ensures.bytes c.add.ensures.rests c.add.ensures.txns c.add.ensures.sound
+    (λ specs bytes rests txns sound. adds tree globals peers c.add.new.self c.args.id c.args.spec c.requires.id c.self.invariant.sound specs.0 specs.1 c.add.ensures.watched bytes rests txns (sound c.self.invariant.sound c.requires.id c.requires.bounds sockets)))
 
 pub invariant_of-self : goal.invariant_of-self
 invariant_of-self c =

@@ -1,6 +1,6 @@
 use Rattle.std.proofs.Common.{ap, ◌∙◌}
 use Rattle.conn_table.specs.Tables.{ring_id}
-use Rattle.daemon.specs.Keeps.{Kept}
+use Rattle.store_parts.specs.Kept.{Kept}
 use Rattle.daemon.proofs.SubmitLemmas.{ring_stands}
 use Rattle.daemon.proofs.service.Daemon.conn_of.Goals as goal
 

@@ -1,5 +1,5 @@
 use Rattle.std.proofs.Common.{◌≤◌, length, subst}
-use Rattle.daemon.specs.Keeps.{Kept}
+use Rattle.store_parts.specs.Kept.{Kept}
 use Rattle.daemon.proofs.PeerLemmas.{table_is_small}
 use Rattle.daemon.proofs.service.Daemon.conns.Goals as goal
 

@@ -1,7 +1,7 @@
 use Rattle.std.proofs.Common.{◌≡◌, ◌==◌, not, is_some, subst, sym, ◌∙◌}
 use Rattle.std.specs.Ordering.{nat_cmp}
 use Rattle.std.specs.FinMap.{find}
-use Rattle.daemon.specs.Keeps.{Kept}
+use Rattle.store_parts.specs.Kept.{Kept}
 use Rattle.daemon.specs.Acts.{kept_by}
 use Rattle.daemon.specs.Submits.{Drops}
 use Rattle.daemon.proofs.SubmitLemmas.{drops, same_unsent}
@@ -18,8 +18,9 @@ pub returns-clause-after : goal.returns-clause-after
 returns-clause-after c =
     let tree = c.self.inside.tree in
     let peers = c.self.inside.peers in
-    subst (λ (k : Kept). Drops k c.args.conn (kept_by tree c.remove.new.self)) c.self.view_is
-    (drops tree peers c.remove.new.self c.args.conn c.self.invariant.sound c.remove.ensures.specs c.remove.ensures.queues c.remove.ensures.txns c.remove.ensures.watched (c.remove.ensures.sound c.self.invariant.sound))
+    let globals = c.self.inside.globals in
+    subst (λ (k : Kept). Drops k c.args.conn (kept_by tree c.remove.new.self globals)) c.self.view_is
+    (drops tree globals peers c.remove.new.self c.args.conn c.self.invariant.sound c.remove.ensures.specs c.remove.ensures.queues c.remove.ensures.txns c.remove.ensures.watched (c.remove.ensures.sound c.self.invariant.sound))
 
 pub invariant_of-self : goal.invariant_of-self
 invariant_of-self c =

@@ -1,10 +1,11 @@
-use Rattle.std.proofs.Common.{◌≡◌, length, refl, sym, ap, ◌∙◌, subst, arith}
+use Rattle.std.proofs.Common.{◌≡◌, IfOk, length, refl, sym, ap, ◌∙◌, subst, arith}
 use Rattle.std.specs.Ordering.{nat_cmp}
 use Rattle.std.specs.FinMap.{find}
 use Rattle.xs_model.proofs.Maps.{from_Some}
-use Rattle.daemon.specs.Keeps.{Kept}
+use Rattle.store_parts.specs.Kept.{Kept}
 use Rattle.conn_rows.specs.Queued.{unsent_of}
-use Rattle.daemon.specs.Submits.{Submits, IsHeld}
+use Rattle.daemon.specs.Acts.{kept_by}
+use Rattle.daemon.specs.Submits.{StepsIfDone, Submits, IsHeld}
 use Rattle.daemon.specs.declared.answer.Submit.TheVariants.{Gone}
 use Rattle.daemon.proofs.SubmitLemmas.{absent_unsent, unsent_count, uncounted, count_there}
 use Rattle.daemon.proofs.service.Daemon.submit.Goals as goal
@@ -34,3 +35,13 @@ submit_to-requires-clause-few c = λ bytes found.
     let there = count_there c.in-Some-unsent.unsent c.args.conn (unsent_of queues) (c.in-Some-unsent.ensures ∙ unsent_count c.args.conn queues) in
     let same : length there.0 ≡ length bytes = ap length (from_Some (sym there.1 ∙ found)) in
     omega (arith, same, there.2, c.if-unsent-ge-HELD_LIMIT.false)
+
+pub returns-clause-step : goal.returns-clause-step
+returns-clause-step c =
+    subst (λ (k : Kept). IfOk c.submit_to.result (StepsIfDone k c.args.conn c.args.message.now (kept_by c.submit_to.new.tree c.submit_to.new.peers c.self.inside.globals))) c.self.view_is
+    (c.submit_to.ensures.step c.self.inside.globals)
+
+pub returns-clause-ok : goal.returns-clause-ok
+returns-clause-ok c =
+    subst (λ (k : Kept). IfOk c.submit_to.result (Submits k c.args.conn c.args.message.now (kept_by c.submit_to.new.tree c.submit_to.new.peers c.self.inside.globals))) c.self.view_is
+    (c.submit_to.ensures.ok c.self.inside.globals)

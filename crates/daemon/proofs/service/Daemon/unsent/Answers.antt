@@ -2,7 +2,7 @@ use Rattle.std.proofs.Common.{length, ap, ◌∙◌}
 use Rattle.std.specs.Option.{option_map}
 use Rattle.std.specs.Ordering.{nat_cmp}
 use Rattle.std.specs.FinMap.{find}
-use Rattle.daemon.specs.Keeps.{Kept}
+use Rattle.store_parts.specs.Kept.{Kept}
 use Rattle.daemon.proofs.SubmitLemmas.{unsent_count}
 use Rattle.daemon.proofs.service.Daemon.unsent.Goals as goal
 
