@@ -213,7 +213,7 @@ module _ (d start : ℕ) (low : start < 2 ^ 32) (w : World) (is : IsStart w) whe
   added_start : IsStart (add_domain d start w)
   added_start = added_by (ring_of d w.machine.conns) refl
 
-lines_start : (lines : List DomainLine) (w : World) → AllByRecursion (λ (line : DomainLine). line.start < 2 ^ 32) lines → IsStart w → IsStart (with_domains lines w)
+pub lines_start : (lines : List DomainLine) (w : World) → AllByRecursion (λ (line : DomainLine). line.start < 2 ^ 32) lines → IsStart w → IsStart (with_domains lines w)
 lines_start [] w h is = is
 lines_start (line ∷ lines) w h is = lines_start lines (add_domain line.domid line.start w) h.1 (added_start line.domid line.start h.0 w is)
 

@@ -1,0 +1,2 @@
+pub mod BegunKeeps
+pub mod BegunStarts
