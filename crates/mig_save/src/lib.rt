@@ -1,0 +1,13 @@
+//! The state of a store as a migration stream (xenstore-migration.md).
+//!
+//! [`image_of`] writes the one stream that tells a state, in one pass over the parts of the store for each kind of record.
+#![tactic(auto)]
+
+mod connections;
+mod marks;
+mod nodes;
+mod scratch;
+mod transactions;
+mod watches;
+
+pub use xs_base::NoMemory;
