@@ -1,2 +1,6 @@
-pub mod Lists
 pub mod Rows
+pub mod MadeWatches
+pub mod Numbers
+pub mod ToldMarks
+pub mod SoundParts
+pub mod Phases

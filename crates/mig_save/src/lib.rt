@@ -6,8 +6,10 @@
 mod connections;
 mod marks;
 mod nodes;
+mod save;
 mod scratch;
 mod transactions;
 mod watches;
 
+pub use save::image_of;
 pub use xs_base::NoMemory;

@@ -56,7 +56,7 @@ fn write_told(
     tx: u32,
     told: (&Path, EntryKind, bool, Option<&Node>),
 ) -> Result<(), NoMemory>
-    requires { ToldFits tree.now.nodes (entry_at told.entry) }
+    requires { ToldFits tree.now.nodes (entry_at told) }
     ensures { OnOk result (out.new ≡ out.old ++ told_text tree.now.nodes conn tx (entry_at told.entry)) }
 {
     let (path, kind, changed, node) = told;
@@ -76,7 +76,7 @@ fn write_entries(
     entries: Entries<'_>,
 ) -> Result<(), NoMemory>
     requires nodes { NodesFit tree.now.nodes }
-    requires marks { MarksFit entries.entry }
+    requires marks { MarksFit entries }
     ensures { OnOk result (out.new ≡ out.old ++ marks_text tree.now.nodes conn tx entries.entry) }
 {
     let mut left = entries;

@@ -47,7 +47,7 @@ pub fn write_found(
     path: &Path,
     node: Option<&Node>,
 ) -> Result<(), NoMemory>
-    requires { FoundFits (option_copied node.entry) }
+    requires { FoundFits (option_copied node) }
     ensures { OnOk result (out.new ≡ out.old ++ canonical_record (found_record conn tx access path.now (option_copied node.entry))) }
 {
     set_string(&mut scratch.path, path.bytes())?;
@@ -81,7 +81,7 @@ fn write_entry(
 
 /// Appends the records of the nodes that are still to come. O(their bytes and entries).
 fn write_walk(out: &mut Bytes, scratch: &mut Scratch, walk: Walk<'_, Entry>) -> Result<(), NoMemory>
-    requires { EntriesFit walk.entry }
+    requires { EntriesFit walk }
     ensures { OnOk result (out.new ≡ out.old ++ nodes_text walk.entry) }
 {
     let mut walk = walk;

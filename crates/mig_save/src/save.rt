@@ -1,0 +1,45 @@
+//! The whole image.
+
+ghost use Rattle.std.specs.Prelude.{◌≡◌, IfOk};
+ghost use Rattle.kept_model.specs.Sound.{IsSound};
+ghost use Rattle.kept_model.specs.Images.{image};
+ghost use Rattle.store_parts.specs.Kept.{kept_lent};
+ghost use Rattle.store_parts.specs.States.{state_of};
+
+use crate::connections::write_connections;
+use crate::marks::write_marks;
+use crate::nodes::write_nodes;
+use crate::scratch::Scratch;
+use crate::transactions::write_transactions;
+use crate::watches::write_watches;
+use mig_records::{write_end, write_global, write_header};
+use msg_reassembly::Ins;
+use std::alloc::Global;
+use store_parts::PartsRef;
+use xs_base::{Bytes, NoMemory};
+
+/// The image of a store: the one stream that tells its state, with the bytes that were read from its connections and are
+/// not answered yet.
+///
+/// It is refused for want of memory alone. O(bytes of the image), O(log connections) a connection, and O(log nodes)
+/// comparisons of paths for each path that a transaction looked at and nobody changed.
+pub fn image_of(alloc: Global, parts: &PartsRef<'_>, ins: &Ins) -> Result<Bytes, NoMemory>
+    requires sound { IsSound (state_of (kept_lent parts.now) ins.now.entries) }
+    ensures { IfOk result (λ bytes. bytes ≡ image (state_of (kept_lent parts.now) ins.now.entries)) }
+{
+    let mut out = Bytes::new(alloc);
+    let mut scratch = Scratch::new(alloc);
+    write_header(&mut out)?;
+    write_global(
+        &mut out,
+        parts.globals.rw_socket_fd,
+        parts.globals.evtchn_fd,
+    )?;
+    write_connections(&mut out, parts.conns, parts.rows, ins)?;
+    write_watches(&mut out, &mut scratch, parts.conns, parts.watchers)?;
+    write_transactions(&mut out, parts.conns, parts.rows)?;
+    write_nodes(&mut out, &mut scratch, parts.tree)?;
+    write_marks(&mut out, &mut scratch, parts.conns, parts.rows, parts.tree)?;
+    write_end(&mut out)?;
+    Ok(out)
+}
