@@ -1,5 +1,5 @@
 -- Watches fit the fields of their records, and are written one by one.
-use Rattle.std.proofs.Common.{◌≡◌, ℕ, zero, suc, ◌+◌, ◌≤◌, ◌<◌, List, [], ◌∷◌, ◌++◌, length, map, take, get_or, Option, Some, sym, ap, subst, ◌∙◌, ltb-false}
+use Rattle.std.proofs.Common.{◌≡◌, ℕ, zero, suc, ◌+◌, ◌≤◌, ◌<◌, List, [], ◌∷◌, ◌++◌, length, take, get_or, Some, sym, ap, subst, ◌∙◌, ltb-false}
 use Rattle.std.specs.Prelude.{nat_lt, slice_get}
 use Rattle.std.specs.Option.{option_map}
 use Rattle.std.specs.List.{AllByRecursion, flat_map}
@@ -10,7 +10,7 @@ use Rattle.xs_model.proofs.Maps.{from_Some, not_Some}
 use Rattle.xs_model.proofs.LengthLemmas.{watch_path-short}
 use Rattle.stream_model.specs.Spelling.{canonical_record}
 use Rattle.kept_model.specs.Images.{watch_record}
-use Rattle.watch_table.specs.Tables.{Made, IsAskable, watch_of, watches_in}
+use Rattle.watch_table.specs.Tables.{Made, IsAskable, watches_in}
 use Rattle.mig_records.proofs.Written.{text_more}
 use Rattle.mig_save.specs.Texts.{watches_text}
 

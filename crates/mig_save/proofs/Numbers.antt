@@ -1,9 +1,8 @@
 -- The nodes of entries with the numbers of their paths.
-use Rattle.std.proofs.Common.{◌≡◌, ℕ, ◌≤◌, ◌/◌, ◌%◌, ◌^◌, true, List, [], ◌∷◌, ◌++◌, map, Some, sym, refl, ap, subst, ◌∙◌, append_assoc}
-use Rattle.std.specs.List.{AllByRecursion, flat_map}
-use Rattle.std.specs.FinMap.{find, is_sorted}
-use Rattle.xs_model.specs.Paths.{Path, path_cmp}
-use Rattle.xs_model.specs.Trees.{Node}
+use Rattle.std.proofs.Common.{◌≡◌, ◌≤◌, ◌/◌, ◌%◌, ◌^◌, true, [], ◌∷◌, ◌++◌, Some, sym, refl, ap, subst, ◌∙◌, append_assoc}
+use Rattle.std.specs.List.{AllByRecursion}
+use Rattle.std.specs.FinMap.{is_sorted}
+use Rattle.xs_model.specs.Paths.{path_cmp}
 use Rattle.xs_model.specs.Generations.{Generations, generation_of, generation_max, or_zero}
 use Rattle.xs_model.proofs.Maps.{sorted_map}
 use Rattle.xs_model.proofs.PathLemmas.{path_total}

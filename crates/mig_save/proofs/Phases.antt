@@ -1,16 +1,15 @@
 -- The image of a state is the bytes of its kinds of records, one kind behind the other.
-use Rattle.std.proofs.Common.{◌≡◌, ℕ, List, [], ◌∷◌, ◌++◌, map, sym, refl, ap, subst, ◌∙◌, append_assoc, append-nil}
+use Rattle.std.proofs.Common.{◌≡◌, ℕ, List, [], ◌∷◌, ◌++◌, map, sym, refl, ap, ◌∙◌, append_assoc, append-nil}
 use Rattle.std.specs.List.{flat_map}
 use Rattle.std.proofs.lemmas.Grind.{flat_map-append}
 use Rattle.std.proofs.lemmas.List.Folds.{flat_map-map}
 use Rattle.xs_model.specs.Trees.{Tree}
 use Rattle.xs_model.specs.Paths.{Path}
-use Rattle.xs_model.specs.Watches.{Watch}
 use Rattle.machine_model.specs.declared.ConnSpec.{ConnSpec}
 use Rattle.mark_model.specs.Marks.{Mark}
 use Rattle.stream_model.specs.Record.{StreamRecord, end_record}
-use Rattle.stream_model.specs.Spelling.{header, canonical_record, canonical}
-use Rattle.kept_model.specs.States.{State, ConnectionOf}
+use Rattle.stream_model.specs.Spelling.{header, canonical_record}
+use Rattle.kept_model.specs.States.{ConnectionOf}
 use Rattle.kept_model.specs.Images.{watch_record, watch_records, transaction_record, transaction_records, mark_record, mark_records, globals_record, node_record, connection_record, image}
 use Rattle.conn_table.specs.Tables.{Specs}
 use Rattle.conn_rows.specs.Rows.{Txns, Rows, txns_of, opens_in as kept_in}
@@ -19,7 +18,7 @@ use Rattle.node_tree.specs.KeptTree.{KeptTree}
 use Rattle.machine_model.specs.declared.Globals.{Globals}
 use Rattle.store_parts.specs.Kept.{Kept, kept_by}
 use Rattle.store_parts.specs.States.{Inboxes, transactions_of, connection_of, state_of}
-use Rattle.mig_save.specs.Texts.{connection_text, connections_text, watches_text, all_watches_text, transaction_text, transactions_text, all_transactions_text, tree_text, marks_text, txns_text, all_marks_text}
+use Rattle.mig_save.specs.Texts.{connection_text, connections_text, watches_text, all_watches_text, transaction_text, transactions_text, all_transactions_text, tree_text, txns_text, all_marks_text}
 use Rattle.mig_save.proofs.SoundParts.{opens_are}
 
 abbrev bytes : List StreamRecord → List ℕ

@@ -2,7 +2,6 @@
 use Rattle.std.proofs.Common.{◌≡◌, [], ◌∷◌, Option, Some, None, sym, refl, subst}
 use Rattle.std.specs.Prelude.{slice_get}
 use Rattle.std.specs.Option.{option_map}
-use Rattle.std.specs.List.{AllByRecursion}
 use Rattle.xs_model.specs.Paths.{Path, path_cmp}
 use Rattle.xs_model.specs.Trees.{Node, Tree, node_at}
 use Rattle.xs_model.proofs.Maps.{from_Some, not_Some, all_found}

@@ -1,5 +1,5 @@
 -- The bytes of the records of a store, kind by kind, by the parts that tell them. This project's own.
-use Rattle.std.specs.Prelude.{◌≡◌, ℕ, ◌/◌, ◌%◌, ◌^◌, ◌≤◌, true, List, length, Option, Some, None}
+use Rattle.std.specs.Prelude.{◌≡◌, ℕ, ◌/◌, ◌%◌, ◌^◌, ◌≤◌, true, List, length, Some}
 use Rattle.std.specs.List.{flat_map, AllByRecursion}
 use Rattle.std.specs.Ordering.{nat_cmp}
 use Rattle.std.specs.FinMap.{find}
@@ -12,7 +12,7 @@ use Rattle.machine_model.specs.declared.ConnSpec.{ConnSpec}
 use Rattle.machine_model.specs.declared.bounds.TheConstants.{CROWD_LIMIT}
 use Rattle.machine_model.specs.History.{bytes_or_none}
 use Rattle.mark_model.specs.Marks.{Mark, Marks}
-use Rattle.stream_model.specs.Record.{StreamRecord, ConnectionData, connection_data, transaction_data}
+use Rattle.stream_model.specs.Record.{ConnectionData, connection_data, transaction_data}
 use Rattle.stream_model.specs.Spelling.{canonical_record}
 use Rattle.kept_model.specs.Sound.{NodeFits, MarksFit}
 use Rattle.kept_model.specs.Images.{kind_number, spec_bytes, watch_record, found_record, node_record, mark_record}

@@ -1,8 +1,9 @@
 //! The whole image.
 
-ghost use Rattle.std.specs.Prelude.{◌≡◌, IfOk};
+ghost use Rattle.std.specs.Prelude.{◌≡◌, ◌++◌, IfOk, OnOk};
+ghost use Rattle.stream_model.specs.Spelling.{canonical_record};
 ghost use Rattle.kept_model.specs.Sound.{IsSound};
-ghost use Rattle.kept_model.specs.Images.{image};
+ghost use Rattle.kept_model.specs.Images.{globals_record, image};
 ghost use Rattle.store_parts.specs.Kept.{kept_lent};
 ghost use Rattle.store_parts.specs.States.{state_of};
 
@@ -15,8 +16,15 @@ use crate::watches::write_watches;
 use mig_records::{write_end, write_global, write_header};
 use msg_reassembly::Ins;
 use std::alloc::Global;
-use store_parts::PartsRef;
+use store_parts::{Globals, PartsRef};
 use xs_base::{Bytes, NoMemory};
+
+/// Appends the record of the whole store.
+fn write_globals(out: &mut Bytes, globals: Globals) -> Result<(), NoMemory>
+    ensures { OnOk result (out.new ≡ out.old ++ canonical_record (globals_record globals)) }
+{
+    write_global(out, globals.rw_socket_fd, globals.evtchn_fd)
+}
 
 /// The image of a store: the one stream that tells its state, with the bytes that were read from its connections and are
 /// not answered yet.
@@ -30,11 +38,7 @@ pub fn image_of(alloc: Global, parts: &PartsRef<'_>, ins: &Ins) -> Result<Bytes,
     let mut out = Bytes::new(alloc);
     let mut scratch = Scratch::new(alloc);
     write_header(&mut out)?;
-    write_global(
-        &mut out,
-        parts.globals.rw_socket_fd,
-        parts.globals.evtchn_fd,
-    )?;
+    write_globals(&mut out, parts.globals)?;
     write_connections(&mut out, parts.conns, parts.rows, ins)?;
     write_watches(&mut out, &mut scratch, parts.conns, parts.watchers)?;
     write_transactions(&mut out, parts.conns, parts.rows)?;

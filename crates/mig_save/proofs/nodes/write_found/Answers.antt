@@ -1,5 +1,4 @@
-use Rattle.std.proofs.Common.{◌≡◌, List, ℕ, ◌∷◌, [], length, ap, ◌∙◌, arith, length-append}
-use Rattle.xs_model.specs.Paths.{text}
+use Rattle.std.proofs.Common.{◌≡◌, ◌∷◌, [], length, ap, ◌∙◌, arith, length-append}
 use Rattle.xs_model.specs.Messages.{string}
 use Rattle.xs_model.proofs.LengthLemmas.{spelled-short}
 use Rattle.mig_save.proofs.nodes.write_found.Goals as goal

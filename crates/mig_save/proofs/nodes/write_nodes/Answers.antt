@@ -3,10 +3,9 @@ use Rattle.std.proofs.lemmas.Result.{on_ok_weaker}
 use Rattle.std.specs.List.{AllByRecursion}
 use Rattle.std.specs.FinMap.{is_sorted}
 use Rattle.xs_model.specs.Paths.{path_cmp}
-use Rattle.xs_model.specs.Trees.{Tree}
 use Rattle.xs_model.specs.Generations.{Generations, generation_max}
 use Rattle.kept_model.specs.Sound.{NodesFit}
-use Rattle.node_tree.specs.KeptTree.{nodes_of, gens_of}
+use Rattle.node_tree.specs.KeptTree.{nodes_of}
 use Rattle.mig_save.specs.Texts.{nodes_text, tree_text}
 use Rattle.mig_save.proofs.Numbers.{entries_fit, text_numbered}
 use Rattle.mig_save.proofs.nodes.write_nodes.Goals as goal

@@ -1,4 +1,4 @@
-use Rattle.std.proofs.Common.{◌<◌, ◌∙◌, sym, length, get_or, arith, []}
+use Rattle.std.proofs.Common.{◌<◌, length, get_or, arith, []}
 use Rattle.std.proofs.lemmas.Option.{slice_get-get_or}
 use Rattle.watch_table.specs.Tables.{Made}
 use Rattle.mig_save.proofs.MadeWatches.{watches_more}
