@@ -9,7 +9,6 @@ ghost use Rattle.std.specs.FinMap.{find, put, is_sorted};
 ghost use Rattle.std.specs.FinMap.Entries.{where_key};
 ghost use Rattle.xs_model.specs.Wholes.{whole_behind, rest_after};
 ghost use Rattle.machine_model.specs.Connections.{least_free};
-ghost use Rattle.mark_model.specs.Stores.{no_marks};
 ghost use Rattle.txn_access.specs.Txns.{Plans};
 ghost use Rattle.txn_access.specs.contracts.txn.Txn.{the_row as txn_row};
 ghost use Rattle.conn_rows.specs.Rows.{opens_in, applied_in, EachIn, HasRoomToNote};
@@ -139,15 +138,15 @@ impl Row {
         self.txns.least_free()
     }
 
-    /// Opens a transaction. Refused, nothing has changed.
-    pub fn open(&mut self, alloc: Global, tx: u32) -> Result<(), NoMemory>
+    /// Opens a transaction, with what it keeps. Refused, nothing has changed.
+    pub fn add_txn(&mut self, tx: u32, txn: Txn) -> Result<(), NoMemory>
         requires positive { 1 ≤ tx }
         requires free { find nat_cmp tx self.old.txns ≡ None }
-        ensures ok { OnOk result (opens_in self.new.txns ≡ put nat_cmp tx no_marks (opens_in self.old.txns)) }
+        ensures ok { OnOk result (self.new.txns ≡ put nat_cmp tx txn self.old.txns) }
         ensures err { OnErr result (self.new.txns ≡ self.old.txns) }
         ensures queue { self.new.queue ≡ self.old.queue }
     {
-        self.txns.add(tx, Txn::start(alloc))
+        self.txns.add(tx, txn)
     }
 
     /// An open transaction.

@@ -281,12 +281,25 @@ impl Rows {
         ensures err { OnErr result (self.new.txns ≡ self.old.txns) }
         ensures queues { self.new.queues ≡ self.old.queues }
     {
+        let txn = Txn::start(self.alloc);
+        self.add_txn(conn, tx, txn)
+    }
+
+    /// Opens a transaction of a connection that is there, with what it keeps already. Refused, nothing has changed. It moves
+    /// the open transactions of higher numbers.
+    pub fn add_txn(&mut self, conn: u32, tx: u32, txn: Txn) -> Result<(), NoMemory>
+        requires there { is_some (find nat_cmp conn self.old.txns) ≡ true }
+        requires positive { 1 ≤ tx }
+        requires free { find nat_cmp tx (txns_of conn self.old.txns) ≡ None }
+        ensures ok { OnOk result (self.new.txns ≡ put nat_cmp conn (put nat_cmp tx txn (txns_of conn self.old.txns)) self.old.txns) }
+        ensures err { OnErr result (self.new.txns ≡ self.old.txns) }
+        ensures queues { self.new.queues ≡ self.old.queues }
+    {
         self.busy.reserve(1)?;
-        let alloc = self.alloc;
         let Some(row) = self.rows.get_mut(conn) else {
             return Ok(());
         };
-        row.open(alloc, tx)?;
+        row.add_txn(tx, txn)?;
         self.busy.put(conn, ());
         Ok(())
     }
