@@ -258,6 +258,25 @@ module _ (conns : Connections) (has : HasIds conns) (fit : ConnsFit conns) where
       free : find nat_cmp c conns ≡ None
       free = (least_free-is conns has.rising has.positive).free
 
+  -- a connection is made under an id that is free
+  pub added_fits : (c : ℕ) (spec : ConnSpec) → find nat_cmp c conns ≡ None → c < 2 ^ 32 → SpecFits spec → ((d : ℕ) → is_ring_of d spec ≡ true → ring_of d conns ≡ None) → (is_socket spec ≡ true → count_ends is_socket conns < 65536)
+      → ConnsFit (put nat_cmp c (fresh spec) conns)
+  added_fits c spec free small fits ringless few = record {
+    ids = keys_put nat_cmp (λ i. i < 2 ^ 32) c (fresh spec) conns small fit.ids;
+    ends = all_put nat_cmp (λ (conn : Connection). SpecFits conn.spec) c (fresh spec) conns fits fit.ends;
+    rings = λ d. subst (λ n. n ≤ 1) (sym (count_new (is_ring_of d) c (fresh spec) conns free)) (one_ring d (is_ring_of d spec) refl);
+    sockets = subst (λ n. n ≤ 65536) (sym (count_new is_socket c (fresh spec) conns free)) (one_socket (is_socket spec) few);
+    watches = all_put nat_cmp (λ (conn : Connection). AreWatches (caller_of conn.spec).domid conn.watches) c (fresh spec) conns tt fit.watches;
+  }
+    where
+      one_ring : (d : ℕ) (b : Bool) → is_ring_of d spec ≡ b → cond b 1 0 + count_ends (is_ring_of d) conns ≤ 1
+      one_ring d true e = let none : count_ends (is_ring_of d) conns ≤ 0 = no_ring d conns (ringless d e) in omega (arith, none)
+      one_ring d false e = omega (arith, fit.rings d)
+
+      one_socket : (b : Bool) → (b ≡ true → count_ends is_socket conns < 65536) → cond b 1 0 + count_ends is_socket conns ≤ 65536
+      one_socket true h = let less : count_ends is_socket conns < 65536 = h refl in omega (arith, less)
+      one_socket false h = omega (arith, fit.sockets)
+
   -- some go
   pub where_fits : (t : ℕ → Bool) → ConnsFit (where_key nat_cmp t conns)
   where_fits t = record {
