@@ -78,7 +78,7 @@ module _ (c : ℕ) (tree : KeptTree) (specs : Specs) (watched : Watched) (rows :
   done = kept_outside k outcome
 
   made : IsMadeByMarks tree.nodes edits []
-  made = made_by_marks tree.nodes edits [] whole.store.tree.rising
+  made = made_by_marks tree.nodes edits [] whole.store.kept.tree.rising
 
   module _ (number : ℕ) (is_number : number ≡ generation_of tree.gens path) (begun : Txn) (new_one : begun ≡ nothing) (ran : Txn) (did : DidCommand) (run : IsRun spec operation path number 0 tree.nodes begun did ran) where
     run_here : IsRun spec operation path (generation_of tree.gens path) 0 tree.nodes nothing did ran
@@ -93,7 +93,7 @@ module _ (c : ℕ) (tree : KeptTree) (specs : Specs) (watched : Watched) (rows :
 
     -- what is to be made of the tree is one
     pub outside_tree : IsTree (committed tree.nodes ran.marks)
-    outside_tree = subst IsTree (sym tree_here) (command_keeps tree.nodes whole.store.tree operation path (caller_of spec) (generation_of tree.gens path))
+    outside_tree = subst IsTree (sym tree_here) (command_keeps tree.nodes whole.store.kept.tree operation path (caller_of spec) (generation_of tree.gens path))
 
     reply_here : did.reply ≡ done.reply
     reply_here = run_here.outcome.reply
@@ -112,7 +112,7 @@ module _ (c : ℕ) (tree : KeptTree) (specs : Specs) (watched : Watched) (rows :
     -- the change is that of its marks
     one_way : IsChangeOf outcome.tree outcome.written (committed tree.nodes ran.marks) (written_paths ran.marks) k
     one_way =
-        let alike = same_change outcome.tree (edit_paths edits) (written_paths (write_all edits [])) k (conns_of specs watched) whole.store (λ p. sym (made.paths p)) in
+        let alike = same_change outcome.tree (edit_paths edits) (written_paths (write_all edits [])) k (conns_of specs watched) whole.store.kept (λ p. sym (made.paths p)) in
         record {
           store = alike.store ∙ (λ i. changed_store (sym tree_here i) (written_paths (sym marks_here i)) k);
           sends = alike.sends ∙ (λ i. change_sends tree.nodes (written_paths (sym marks_here i)) (sym tree_here i) (conns_of specs watched));

@@ -47,7 +47,7 @@ module _ (c : ℕ) (spec : ConnSpec) (tree : KeptTree) (before old : Connected) 
   still_there = ap (find nat_cmp c) was.specs ∙ was.there
 
   pub still_whole : IsWhole tree old
-  still_whole = whole_same tree before was.whole old (was.sound was.whole.sound) was.txns
+  still_whole = whole_same tree before was.whole old (was.sound was.whole.sound) was.specs was.watched was.txns
 
   kept : (globals : Globals) → kept_by tree old globals ≡ kept_by tree before globals
   kept globals = same_kept tree globals before old was.specs was.watched was.txns was.bytes was.rests
@@ -110,7 +110,7 @@ module _ (c : ℕ) (spec : ConnSpec) (tree : KeptTree) (before old : Connected) 
 
         module _ (sent : List ℕ) (spelled : sent ≡ message_bytes (reply_message head answer.reply)) (new : Connected) (specs : new.specs ≡ peers.specs) (watched : new.watched ≡ peers.watched) (txns : new.txns ≡ peers.txns)
             (pushed : unsent_of new.queues ≡ joined_by c sent answer.owed (unsent_of peers.queues)) where
-          pub done_whole : IsWhole tree_new new
+          pub done_whole : length message ≤ 4112 → IsWhole tree_new new
           done_whole = taken_whole tree old c spec head payload message still_whole still_there heads pays tree_new peers new answer sent did specs watched txns spelled pushed
 
           module _ (rests : rests_of new.queues ≡ rests_of peers.queues) (globals : Globals) where

@@ -47,12 +47,16 @@ both P Q (Ok x) p q = (p, q)
 both P Q (Err e) p q = tt
 
 -- what is added was not there
-pub not_there : (r : Result (Unit {0}) AddErr) (c : ℕ) (spec : ConnSpec) (specs : Specs) → (IsErrOf r Taken ↔ (is_taken c spec specs ≡ true)) → OnOk r (find nat_cmp c specs ≡ None)
-not_there (Ok x) c spec specs h = untaken c spec specs (by (is_taken c spec specs) refl)
+pub not_taken : (r : Result (Unit {0}) AddErr) (c : ℕ) (spec : ConnSpec) (specs : Specs) → (IsErrOf r Taken ↔ (is_taken c spec specs ≡ true)) → OnOk r (is_taken c spec specs ≡ false)
+not_taken (Ok x) c spec specs h = by (is_taken c spec specs) refl
   where
     by : (b : Bool) → is_taken c spec specs ≡ b → b ≡ false
     by true e = let bad : Ok x ≡ Err Taken = h.1 e in cc
     by false e = refl
+not_taken (Err e) c spec specs h = tt
+
+pub not_there : (r : Result (Unit {0}) AddErr) (c : ℕ) (spec : ConnSpec) (specs : Specs) → (IsErrOf r Taken ↔ (is_taken c spec specs ≡ true)) → OnOk r (find nat_cmp c specs ≡ None)
+not_there (Ok x) c spec specs h = untaken c spec specs (not_taken (Ok x) c spec specs h)
 not_there (Err e) c spec specs h = tt
 
 -- A CONNECTION IS ADDED

@@ -1,5 +1,5 @@
 -- A request that is taken is one step of the store that is kept, and so of each store that the daemon stands for.
-use Rattle.std.proofs.Common.{◌≡◌, ℕ, ◌<◌, List, [], ◌∷◌, ◌++◌, length, map, Option, Some, None, true, is_some, refl, sym, ap, subst, ◌∙◌}
+use Rattle.std.proofs.Common.{◌≡◌, ℕ, ◌<◌, ◌≤◌, List, [], ◌∷◌, ◌++◌, length, map, Option, Some, None, true, is_some, refl, sym, ap, subst, ◌∙◌}
 use Rattle.std.specs.Option.{option_map}
 use Rattle.std.specs.Ordering.{nat_cmp}
 use Rattle.std.specs.FinMap.{find}
@@ -14,10 +14,12 @@ use Rattle.machine_model.specs.Machine.{Machine, Asked, Send, step, reply_messag
 use Rattle.machine_model.specs.History.{Unsent, sent_to, unsent_to, unsent_after, crowded}
 use Rattle.machine_model.proofs.KeepLemmas.{step_keeps}
 use Rattle.machine_model.proofs.IdLemmas.{step_ids}
-use Rattle.mark_model.specs.Stores.{KeptStore, KeptDone, IsKeptStore, kept_of, kept_act_or_refuse, kept_answered, kept_step_of, kept_step}
+use Rattle.mark_model.specs.Stores.{KeptStore, KeptDone, kept_of, kept_act_or_refuse, kept_answered, kept_step_of, kept_step}
 use Rattle.mark_model.specs.Laws.{IsKeptStep}
 use Rattle.mark_model.proofs.MarkLaws.{laws}
-use Rattle.mark_model.proofs.StoreSteps.{steps_kept, steps_keep_stores}
+use Rattle.mark_model.proofs.StoreSteps.{steps_kept}
+use Rattle.kept_model.specs.Sound.{IsSoundStore}
+use Rattle.kept_model.proofs.StepStores.{steps_keep_sound}
 use Rattle.conn_table.specs.Tables.{IsTable}
 use Rattle.node_tree.specs.KeptTree.{KeptTree}
 use Rattle.watchers.specs.Watched.{conns_of}
@@ -85,10 +87,10 @@ module _ (tree : KeptTree) (old : Connected) (c : ℕ) (spec : ConnSpec) (head :
     step_is : kept_step all_types (store_in tree old) (Asked c message) ≡ (store_in tree_new new, (c, reply_message head answer.reply) ∷ done.sends)
     step_is = steps_so ∙ (λ i. ((did.store ∙ sym (same_store tree_new peers new specs watched txns)) i, (c, reply_message head (sym did.reply i)) ∷ done.sends))
 
-    pub taken_whole : IsWhole tree_new new
-    taken_whole = record {
+    pub taken_whole : length message ≤ 4112 → IsWhole tree_new new
+    taken_whole short = record {
       sound = taken_sound;
-      store = subst IsKeptStore (ap (λ (s : KeptStore × List Send). s.0) step_is) (steps_keep_stores laws all_types (store_in tree old) (Asked c message) whole.store);
+      store = subst IsSoundStore (ap (λ (s : KeptStore × List Send). s.0) step_is) (steps_keep_sound all_types (store_in tree old) (Asked c message) short whole.store);
       counter = did.counter;
     }
 

@@ -7,7 +7,8 @@ use Rattle.machine_model.specs.declared.ConnSpec.TheVariants.{Ring}
 use Rattle.machine_model.specs.declared.Globals.{Globals}
 use Rattle.machine_model.specs.Connections.{Connections, fresh, ring_of}
 use Rattle.machine_model.specs.Machine.{Done}
-use Rattle.mark_model.specs.Stores.{KeptDone, KeptStore, IsKeptStore, opens_by}
+use Rattle.mark_model.specs.Stores.{KeptDone, KeptStore, opens_by}
+use Rattle.kept_model.specs.Sound.{IsSoundStore}
 use Rattle.machine_model.specs.History.{Unsent, unsent_to, sent_to}
 use Rattle.xs_model.specs.declared.message.WireErr.{WireErr}
 use Rattle.xs_model.specs.Generations.{Generations, greatest}
@@ -44,7 +45,7 @@ store_in tree peers = record { machine = machine_of tree.nodes tree.gens peers.s
 -- it is of the kind that steps keep, and the next number is counted from the greatest
 pub record IsWhole (tree : KeptTree) (peers : Connected) : Type 0 where
   pub sound : IsSound peers
-  pub store : IsKeptStore (store_in tree peers)
+  pub store : IsSoundStore (store_in tree peers)
   pub counter : tree.counter ≡ greatest tree.gens
 
 -- A DOOR: the ring connection of a domain that came

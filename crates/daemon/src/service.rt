@@ -9,7 +9,8 @@ ghost use Rattle.machine_model.specs.Connections.{ring_of};
 ghost use Rattle.machine_model.specs.Machine.{Machine, new_machine};
 ghost use Rattle.conn_table.specs.Tables.{IsTable, is_taken, is_socket, count_sockets};
 ghost use Rattle.store_parts.specs.Kept.{kept_lent};
-ghost use Rattle.daemon.specs.Keeps.{StandsFor, no_globals};
+ghost use Rattle.kept_model.specs.Sound.{IsSoundStore, SpecFits};
+ghost use Rattle.daemon.specs.Keeps.{StandsFor, no_globals, store_of};
 ghost use Rattle.conn_rows.specs.Queued.{unsent_of};
 ghost use Rattle.daemon.specs.Peers.{IsInBounds, IsSoundTable};
 ghost use Rattle.daemon.specs.Acts.{IsAsBefore, IsWhole, kept_by};
@@ -86,6 +87,7 @@ impl Daemon {
         ensures err { OnErr result (self.new ≡ self.old) }
         ensures taken { IsErrOf result AddErr.Taken ↔ (is_taken id spec self.old.specs ≡ true) }
     {
+        spec_fits(spec);
         self.peers.add(id, spec)
     }
 
@@ -98,7 +100,8 @@ impl Daemon {
     /// message for each watch that is told; START O(log open transactions); INTRODUCE and RELEASE a move of the connections
     /// of higher ids, and a look at each connection; RESET_WATCHES what it removes.
     pub fn submit(&mut self, conn: u32, message: &[u8]) -> Result<Submit, NoMemory>
-        requires { 16 ≤ length message.now }
+        requires long { 16 ≤ length message.now }
+        requires short { length message.now ≤ 4112 }
         // What is kept after it is a function of what was kept: one step of the store that is kept.
         ensures step { IfOk result (StepsIfDone self.old conn message.now self.new) }
         ensures ok { IfOk result (Submits self.old conn message.now self.new) }
@@ -169,6 +172,13 @@ impl Daemon {
         self.peers.conns()
     }
 
+    /// The store that is kept is sound. O(1).
+    pub fn is_sound(&self)
+        ensures { IsSoundStore (store_of self.now) }
+    {
+        let _tree = &self.tree;
+    }
+
     /// The parts of the store, as they are kept. O(1).
     pub fn parts(&self) -> PartsRef<'_>
         ensures { kept_lent result ≡ self.now }
@@ -179,6 +189,20 @@ impl Daemon {
             rows: &self.peers.rows,
             tree: &self.tree,
             globals: self.globals,
+        }
+    }
+}
+
+/// The numbers of an end have as many bits as those that a stream has for them.
+fn spec_fits(spec: ConnSpec)
+    ensures { IsInBounds spec → SpecFits spec }
+{
+    match spec {
+        ConnSpec::Ring { evtchn, .. } => {
+            let _bits = evtchn;
+        }
+        ConnSpec::Socket { fd } => {
+            let _bits = fd;
         }
     }
 }
@@ -194,6 +218,7 @@ fn submit_to(
     message: &[u8],
 ) -> Result<Submit, NoMemory>
     requires message { 16 ≤ length message.now }
+    requires short { length message.now ≤ 4112 }
     requires whole { IsWhole tree.old peers.old }
     requires there { find nat_cmp asker.conn peers.old.specs ≡ Some asker.spec }
     requires few { (bytes : List ℕ) → find nat_cmp asker.conn (unsent_of peers.old.queues) ≡ Some bytes → length bytes < HELD_LIMIT }

@@ -36,7 +36,7 @@ run_inside-requires-clause-tree c =
     let tree = c.args.tree.now in
     let rows = c.peers.inside.rows in
     let whole : IsWhole tree (connected c.peers.inside.conns c.peers.inside.watchers rows) = subst (IsWhole tree) (sym c.peers.view_is) c.requires.whole in
-    (kept_found tree.nodes (opens_of rows.txns) whole.store.each conn tx (kept_txn c.in-Some.txn.now) (open_found conn tx rows.txns ∙ ap (option_map kept_txn) (sym c.in-Some.ensures.value))).marks.seen
+    (kept_found tree.nodes (opens_of rows.txns) whole.store.kept.each conn tx (kept_txn c.in-Some.txn.now) (open_found conn tx rows.txns ∙ ap (option_map kept_txn) (sym c.in-Some.ensures.value))).marks.seen
 
 pub returns-in_err-reply-clause-err : goal.returns-in_err-reply-clause-err
 returns-in_err-reply-clause-err c =

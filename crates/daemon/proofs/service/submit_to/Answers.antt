@@ -11,7 +11,7 @@ use Rattle.daemon.proofs.ReservedLemmas.{IsReserved, refused_whole, refused_befo
 use Rattle.daemon.proofs.service.submit_to.Goals as goal
 
 pub answer-requires-clause-whole : goal.answer-requires-clause-whole
-answer-requires-clause-whole c = whole_same c.args.tree.now c.args.peers.now c.requires.whole c.reserve.new.self (c.reserve.ensures.sound c.requires.whole.sound) c.reserve.ensures.txns
+answer-requires-clause-whole c = whole_same c.args.tree.now c.args.peers.now c.requires.whole c.reserve.new.self (c.reserve.ensures.sound c.requires.whole.sound) c.reserve.ensures.specs c.reserve.ensures.watched c.reserve.ensures.txns
 
 pub answer-requires-clause-may : goal.answer-requires-clause-may
 answer-requires-clause-may c = record {
@@ -64,7 +64,7 @@ returns-in-Done-clause-whole c =
     let was : IsReserved c.args.asker.conn c.args.asker.spec c.args.tree.now c.args.peers.now c.reserve.new.self = record { whole = c.requires.whole; there = c.requires.there; few = c.requires.few; specs = c.reserve.ensures.specs; watched = c.reserve.ensures.watched; bytes = c.reserve.ensures.bytes; rests = c.reserve.ensures.rests; txns = c.reserve.ensures.txns; sound = c.reserve.ensures.sound } in
     done_whole c.args.asker.conn c.args.asker.spec c.args.tree.now c.args.peers.now c.reserve.new.self was c.head_of-head.result c.payload_of.result.now c.args.message.now c.head_of-head.ensures c.payload_of.ensures
     c.answer.new.tree c.answer.new.peers c.in_ok-conn.field-0 c.in_ok-conn.ensures.ok c.in-Done.answer c.in-Done.is
-    c.first.result.now (c.first.ensures ∙ c.put_reply-len.ensures.bytes) c.send.new.self c.send.ensures.specs c.send.ensures.watched c.send.ensures.txns c.send.ensures.bytes
+    c.first.result.now (c.first.ensures ∙ c.put_reply-len.ensures.bytes) c.send.new.self c.send.ensures.specs c.send.ensures.watched c.send.ensures.txns c.send.ensures.bytes c.requires.short
 
 pub returns-in_err-conn-clause-whole : goal.returns-in_err-conn-clause-whole
 returns-in_err-conn-clause-whole c =

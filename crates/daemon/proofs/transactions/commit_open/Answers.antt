@@ -33,8 +33,8 @@ make_open-requires-clause-tree c =
     subst (λ (o : Option Txn). IfSome o (λ t. has_conflict t.marks ≡ false)) found.1
     (subst (λ (p : Connected). IfSome (find nat_cmp tx (txns_of conn p.txns)) (λ t. has_conflict t.marks ≡ false)) (sym c.peers.view_is) c.requires.free)
     in
-    let kept = kept_found tree.nodes (opens_of rows.txns) whole.store.each conn tx (kept_txn found.0) (open_found conn tx rows.txns ∙ ap (option_map kept_txn) found.1) in
-    subst (λ (o : Option Txn). IfSome o (λ t. IsTree (committed tree.nodes t.marks))) (sym found.1) (commit_is_tree tree.nodes (kept_txn found.0) whole.store.tree kept free)
+    let kept = kept_found tree.nodes (opens_of rows.txns) whole.store.kept.each conn tx (kept_txn found.0) (open_found conn tx rows.txns ∙ ap (option_map kept_txn) found.1) in
+    subst (λ (o : Option Txn). IfSome o (λ t. IsTree (committed tree.nodes t.marks))) (sym found.1) (commit_is_tree tree.nodes (kept_txn found.0) whole.store.kept.tree kept free)
 
 pub make_open-requires-clause-queues : goal.make_open-requires-clause-queues
 make_open-requires-clause-queues c =

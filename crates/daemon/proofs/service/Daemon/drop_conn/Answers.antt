@@ -1,4 +1,4 @@
-use Rattle.std.proofs.Common.{◌≡◌, ◌==◌, not, is_some, subst, sym, ◌∙◌}
+use Rattle.std.proofs.Common.{◌≡◌, is_some, subst, sym, ◌∙◌}
 use Rattle.std.specs.Ordering.{nat_cmp}
 use Rattle.std.specs.FinMap.{find}
 use Rattle.store_parts.specs.Kept.{Kept}
@@ -24,4 +24,4 @@ returns-clause-after c =
 
 pub invariant_of-self : goal.invariant_of-self
 invariant_of-self c =
-    whole_less c.self.inside.tree c.self.inside.peers c.self.invariant c.remove.new.self (c.remove.ensures.sound c.self.invariant.sound) (λ key. not (c.args.conn == key)) c.remove.ensures.txns
+    whole_less c.self.inside.tree c.self.inside.peers c.self.invariant c.remove.new.self (c.remove.ensures.sound c.self.invariant.sound) c.args.conn c.remove.ensures.specs c.remove.ensures.watched c.remove.ensures.txns
