@@ -3,4 +3,5 @@ pub mod MadeWatches
 pub mod Numbers
 pub mod ToldMarks
 pub mod SoundParts
+pub mod RecordSizes
 pub mod Phases

@@ -1,5 +1,5 @@
 -- The image of a state is the bytes of its kinds of records, one kind behind the other.
-use Rattle.std.proofs.Common.{◌≡◌, ℕ, List, [], ◌∷◌, ◌++◌, map, sym, refl, ap, ◌∙◌, append_assoc, append-nil}
+use Rattle.std.proofs.Common.{◌≡◌, ℕ, List, [], ◌∷◌, ◌++◌, map, sym, refl, ap, ◌∙◌, append_assoc, append-nil, ◌+◌, length, length-append, arith}
 use Rattle.std.specs.List.{flat_map}
 use Rattle.std.proofs.lemmas.Grind.{flat_map-append}
 use Rattle.std.proofs.lemmas.List.Folds.{flat_map-map}
@@ -20,6 +20,7 @@ use Rattle.store_parts.specs.Kept.{Kept, kept_by}
 use Rattle.store_parts.specs.States.{Inboxes, transactions_of, connection_of, state_of}
 use Rattle.mig_save.specs.Texts.{connection_text, connections_text, watches_text, all_watches_text, transaction_text, transactions_text, all_transactions_text, tree_text, txns_text, all_marks_text}
 use Rattle.mig_save.proofs.SoundParts.{opens_are}
+use Rattle.mig_save.proofs.RecordSizes.{globals_size, end_size}
 
 abbrev bytes : List StreamRecord → List ℕ
 bytes records = flat_map canonical_record records
@@ -37,6 +38,11 @@ marks_same tree c (e ∷ txns) =
     split (map (λ (f : Path × Mark). mark_record tree c e.0 f.0 f.1) e.1.marks) (flat_map (λ g. map (λ f. mark_record tree c g.0 f.0 f.1) g.1.marks) (transactions_of (kept_in txns)))
     ∙ (λ i. flat_map-map canonical_record (λ (f : Path × Mark). mark_record tree c e.0 f.0 f.1) e.1.marks i ++ marks_same tree c txns i)
 
+-- sizes of parts make that of the whole
+summed : (h g a b c d e z : List ℕ) (n1 n2 n3 n4 n5 : ℕ) → length h ≡ 16 → length g ≡ 16 → length z ≡ 8 → n1 ≡ 40 + length a → n2 ≡ n1 + length b → n3 ≡ n2 + length c
+    → n4 ≡ n3 + length d → n5 ≡ n4 + length e → n5 ≡ length (((((((h ++ g) ++ a) ++ b) ++ c) ++ d) ++ e) ++ z)
+summed h g a b c d e z n1 n2 n3 n4 n5 h1 h2 h3 e1 e2 e3 e4 e5 = simp length-append (omega arith)
+
 module _ (watched : Watched) (rows : Rows) (tree : KeptTree) (globals : Globals) (ins : Inboxes) (all : Specs) where
   abbrev kept : Kept
   kept = kept_by all watched rows tree globals
@@ -45,6 +51,7 @@ module _ (watched : Watched) (rows : Rows) (tree : KeptTree) (globals : Globals)
   conns_by specs = map (λ e. (e.0, connection_of kept ins e.0 e.1)) specs
 
   connections_same : (specs : Specs) → bytes (map (λ e. connection_record e.0 e.1) (conns_by specs)) ≡ connections_text specs rows.queues ins
+  unfolding connection_text
   connections_same [] = refl
   connections_same (e ∷ specs) = ap (λ (x : List ℕ). connection_text rows.queues ins e ++ x) (connections_same specs)
 
@@ -106,3 +113,23 @@ module _ (watched : Watched) (rows : Rows) (tree : KeptTree) (globals : Globals)
       ∙ sym (joined (globals_record globals) end_record (map (λ e. connection_record e.0 e.1) (conns_by all)) (flat_map (λ e. watch_records e.0 e.1) (conns_by all))
       (flat_map (λ e. transaction_records e.0 e.1) (conns_by all)) (map (λ n. node_record tree.gens n.0 n.1) tree.nodes) (flat_map (λ e. mark_records tree.nodes e.0 e.1) (conns_by all)))
       )
+
+  -- and how long it is
+  header_size : length header ≡ 16
+  unfolding header
+  header_size = refl
+
+  pub image_size : (n1 n2 n3 n4 n5 : ℕ) → n1 ≡ 40 + length (connections_text all rows.queues ins) → n2 ≡ n1 + length (all_watches_text all watched)
+      → n3 ≡ n2 + length (all_transactions_text all rows.txns) → n4 ≡ n3 + length (tree_text tree.gens tree.nodes) → n5 ≡ n4 + length (all_marks_text all tree.nodes rows.txns)
+      → n5 ≡ length (image (state_of kept ins))
+  image_size n1 n2 n3 n4 n5 e1 e2 e3 e4 e5 =
+      let a = connections_text all rows.queues ins in
+      let b = all_watches_text all watched in
+      let c = all_transactions_text all rows.txns in
+      let d = tree_text tree.gens tree.nodes in
+      let e = all_marks_text all tree.nodes rows.txns in
+      let g = canonical_record (globals_record globals) in
+      let z = canonical_record end_record in
+      let whole = image_is header (header ++ g) ((header ++ g) ++ a) (((header ++ g) ++ a) ++ b) ((((header ++ g) ++ a) ++ b) ++ c) (((((header ++ g) ++ a) ++ b) ++ c) ++ d)
+      ((((((header ++ g) ++ a) ++ b) ++ c) ++ d) ++ e) (((((((header ++ g) ++ a) ++ b) ++ c) ++ d) ++ e) ++ z) refl refl refl refl refl refl refl refl in
+      summed header g a b c d e z n1 n2 n3 n4 n5 header_size (globals_size globals) end_size e1 e2 e3 e4 e5 ∙ ap length whole

@@ -1,6 +1,6 @@
 -- The node that a mark's record tells fits its field.
 use Rattle.std.proofs.Common.{◌≡◌, [], ◌∷◌, Option, Some, None, sym, refl, subst}
-use Rattle.std.specs.Prelude.{slice_get}
+use Rattle.std.specs.Prelude.{drop, slice_get}
 use Rattle.std.specs.Option.{option_map}
 use Rattle.xs_model.specs.Paths.{Path, path_cmp}
 use Rattle.xs_model.specs.Trees.{Node, Tree, node_at}
@@ -25,3 +25,7 @@ mark_fits tree nodes p (Kept old) fits = fits
 pub first_fits : (tree : Tree) (left : Marks) (told : Entry) → NodesFit tree → MarksFit left → Some told ≡ option_map entry_of (slice_get left 0) → ToldFits tree told
 first_fits tree [] told nodes fit is = not_Some (sym is)
 first_fits tree (e ∷ left) told nodes fit is = subst (ToldFits tree) (sym (from_Some is)) (mark_fits tree nodes e.0 e.1 fit.0.1)
+
+pub fit_behind : (left : Marks) → MarksFit left → MarksFit (drop 1 left)
+fit_behind [] fit = tt
+fit_behind (e ∷ left) fit = fit.1

@@ -37,7 +37,7 @@ connection_data_of queues ins e = record {
   unsent = bytes_or_none (find nat_cmp e.0 (unsent_of queues));
 }
 
-abbrev pub connection_text : List (ℕ × Queue) → Inboxes → ℕ × ConnSpec → List ℕ
+unfoldable pub connection_text : List (ℕ × Queue) → Inboxes → ℕ × ConnSpec → List ℕ
 connection_text queues ins e = canonical_record (connection_data (connection_data_of queues ins e))
 
 abbrev pub connections_text : Specs → List (ℕ × Queue) → Inboxes → List ℕ

@@ -3,12 +3,10 @@
 ghost use Rattle.std.specs.Prelude.{◌≡◌, ◌++◌, OnOk};
 ghost use Rattle.std.specs.Option.{option_copied, option_map};
 ghost use Rattle.stream_model.specs.Fields.{u16_bytes, u32_bytes};
-ghost use Rattle.stream_model.specs.Record.{connection_data};
-ghost use Rattle.stream_model.specs.Spelling.{canonical_record};
 ghost use Rattle.kept_model.specs.Images.{target_number, kind_number, spec_bytes};
 ghost use Rattle.machine_model.specs.History.{bytes_or_none};
 ghost use Rattle.store_parts.specs.States.{or_zero};
-ghost use Rattle.mig_save.specs.Texts.{connection_data_of, connections_text, DataFits, ConnectionsFit};
+ghost use Rattle.mig_save.specs.Texts.{connection_data_of, connection_text, connections_text, DataFits, ConnectionsFit};
 
 use byteorder::{ByteOrder, LittleEndian};
 use conn_rows::{Row, Rows};
@@ -71,7 +69,7 @@ fn spec_bytes(spec: ConnSpec) -> [u8; 8]
 }
 
 /// What is unsent, where there is a row.
-fn unsent_in(row: Option<&Row>) -> &[u8]
+pub fn unsent_in(row: Option<&Row>) -> &[u8]
     ensures { result.now ≡ bytes_or_none (option_map (λ row. row.queue.bytes) (option_copied row.entry)) }
 {
     match row {
@@ -91,7 +89,7 @@ fn rest_in(row: Option<&Row>) -> usize
 }
 
 /// What was read, where there is an inbox.
-fn bytes_in(inbox: Option<&Inbox>) -> &[u8]
+pub fn bytes_in(inbox: Option<&Inbox>) -> &[u8]
     ensures { result.now ≡ bytes_or_none (option_copied inbox.entry) }
 {
     match inbox {
@@ -109,7 +107,7 @@ fn write_one(
     ins: &Ins,
 ) -> Result<(), NoMemory>
     requires { DataFits (connection_data_of rows.now.queues ins.now.entries (id, spec)) }
-    ensures { OnOk result (out.new ≡ out.old ++ canonical_record (connection_data (connection_data_of rows.now.queues ins.now.entries (id, spec)))) }
+    ensures { OnOk result (out.new ≡ out.old ++ connection_text rows.now.queues ins.now.entries (id, spec)) }
 {
     let row = rows.row(id);
     let rest = rest_in(row) as u32;

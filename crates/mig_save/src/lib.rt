@@ -8,6 +8,7 @@ mod marks;
 mod nodes;
 mod save;
 mod scratch;
+mod sizes;
 mod transactions;
 mod watches;
 

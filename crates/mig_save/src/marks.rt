@@ -30,7 +30,7 @@ fn access_of(kind: EntryKind, changed: bool) -> u16
 
 /// The node that a mark's record tells: where the path was looked at and nobody changed it, the one that stands there.
 /// O(log nodes) comparisons of paths.
-fn node_told<'a>(
+pub fn node_told<'a>(
     tree: &'a Tree,
     path: &Path,
     kind: EntryKind,

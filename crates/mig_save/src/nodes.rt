@@ -19,7 +19,7 @@ use xs_perms::Perm;
 /// A number's lower 32 bits and those above them stand in two fields.
 const LOW: u64 = 4294967296;
 
-fn value_in(node: Option<&Node>) -> &[u8]
+pub fn value_in(node: Option<&Node>) -> &[u8]
     ensures { result.now ≡ value_in (option_copied node.entry) }
 {
     match node {
@@ -28,7 +28,7 @@ fn value_in(node: Option<&Node>) -> &[u8]
     }
 }
 
-fn perms_in(node: Option<&Node>) -> &[Perm]
+pub fn perms_in(node: Option<&Node>) -> &[Perm]
     ensures { result.now ≡ perms_in (option_copied node.entry) }
 {
     match node {

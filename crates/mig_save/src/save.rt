@@ -1,6 +1,6 @@
 //! The whole image.
 
-ghost use Rattle.std.specs.Prelude.{◌≡◌, ◌++◌, IfOk, OnOk};
+ghost use Rattle.std.specs.Prelude.{◌≡◌, ◌++◌, IfOk, OnOk, length};
 ghost use Rattle.stream_model.specs.Spelling.{canonical_record};
 ghost use Rattle.kept_model.specs.Sound.{IsSound};
 ghost use Rattle.kept_model.specs.Images.{globals_record, image};
@@ -11,6 +11,7 @@ use crate::connections::write_connections;
 use crate::marks::write_marks;
 use crate::nodes::write_nodes;
 use crate::scratch::Scratch;
+use crate::sizes::{add_connections, add_marks, add_nodes, add_transactions, add_watches};
 use crate::transactions::write_transactions;
 use crate::watches::write_watches;
 use mig_records::{write_end, write_global, write_header};
@@ -19,6 +20,9 @@ use std::alloc::Global;
 use store_parts::{Globals, PartsRef};
 use xs_base::{Bytes, NoMemory};
 
+/// The bytes of the header, of the record of the whole store and of END.
+const FRAME: usize = 40;
+
 /// Appends the record of the whole store.
 fn write_globals(out: &mut Bytes, globals: Globals) -> Result<(), NoMemory>
     ensures { OnOk result (out.new ≡ out.old ++ canonical_record (globals_record globals)) }
@@ -26,16 +30,30 @@ fn write_globals(out: &mut Bytes, globals: Globals) -> Result<(), NoMemory>
     write_global(out, globals.rw_socket_fd, globals.evtchn_fd)
 }
 
+/// How many bytes the image of a store has. O(nodes, watches and marks), and the look-ups of [`image_of`].
+fn image_len(parts: &PartsRef<'_>, ins: &Ins) -> Result<usize, NoMemory>
+    requires sound { IsSound (state_of (kept_lent parts.now) ins.now.entries) }
+    ensures { IfOk result (λ n. n ≡ length (image (state_of (kept_lent parts.now) ins.now.entries))) }
+{
+    let conns = add_connections(FRAME, parts.conns, parts.rows, ins)?;
+    let watches = add_watches(conns, parts.conns, parts.watchers)?;
+    let transactions = add_transactions(watches, parts.conns, parts.rows)?;
+    let nodes = add_nodes(transactions, parts.tree)?;
+    add_marks(nodes, parts.conns, parts.rows, parts.tree)
+}
+
 /// The image of a store: the one stream that tells its state, with the bytes that were read from its connections and are
 /// not answered yet.
 ///
-/// It is refused for want of memory alone. O(bytes of the image), O(log connections) a connection, and O(log nodes)
+/// Its bytes are counted first, so that it is written once, into memory that is taken at once. It is refused for want of
+/// memory alone. O(bytes of the image), O(log connections) a connection, and O(log nodes)
 /// comparisons of paths for each path that a transaction looked at and nobody changed.
 pub fn image_of(alloc: Global, parts: &PartsRef<'_>, ins: &Ins) -> Result<Bytes, NoMemory>
     requires sound { IsSound (state_of (kept_lent parts.now) ins.now.entries) }
     ensures { IfOk result (λ bytes. bytes ≡ image (state_of (kept_lent parts.now) ins.now.entries)) }
 {
-    let mut out = Bytes::new(alloc);
+    let len = image_len(parts, ins)?;
+    let mut out = Bytes::from_vec(Vec::with_capacity(alloc, len)?);
     let mut scratch = Scratch::new(alloc);
     write_header(&mut out)?;
     write_globals(&mut out, parts.globals)?;

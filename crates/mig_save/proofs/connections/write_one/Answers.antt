@@ -5,7 +5,7 @@ use Rattle.stream_model.specs.Record.{ConnectionData, connection_data}
 use Rattle.stream_model.specs.Spelling.{canonical_record}
 use Rattle.machine_model.specs.History.{bytes_or_none}
 use Rattle.machine_model.specs.declared.bounds.TheConstants.{CROWD_LIMIT}
-use Rattle.mig_save.specs.Texts.{connection_data_of}
+use Rattle.mig_save.specs.Texts.{connection_data_of, connection_text}
 use Rattle.mig_save.proofs.Rows.{unsent_told, rest_told, rest_within}
 use Rattle.mig_save.proofs.connections.write_one.Goals as goal
 
@@ -26,6 +26,7 @@ write_connection-requires c =
     omega (arith, crowd, ap length inbox, ap length unsent, c.requires.unsent, c.requires.inbox)
 
 pub returns : goal.returns
+unfolding connection_text
 returns c =
     let d : ConnectionData = connection_data_of c.args.rows.now.queues c.args.ins.now.entries (c.args.id, c.args.spec) in
     let rest : c.rest_in-rest.result ≡ d.rest = c.rest_in-rest.ensures ∙ rest_told c.args.id c.args.rows.now.queues (option_copied c.row-row.result) c.row-row.ensures.queue in

@@ -19,5 +19,5 @@ returns c =
     let p = c.args.parts.now in
     image_is p.watchers.now p.rows.now p.tree.now p.globals c.args.ins.now.entries p.conns.now c.write_header.new.out c.write_globals.new.out c.write_connections.new.out
     c.write_watches.new.out c.write_transactions.new.out c.write_nodes.new.out c.write_marks.new.out c.write_end.new.out
-    (c.in_ok-write_header.ensures ∙ ap (λ (x : List ℕ). x ++ header) c.new-out.ensures) c.in_ok-write_globals.ensures c.in_ok-write_connections.ensures
+    (c.in_ok-write_header.ensures ∙ ap (λ (x : List ℕ). x ++ header) (c.from_vec-out.ensures ∙ c.in_ok-with_capacity.ensures.items)) c.in_ok-write_globals.ensures c.in_ok-write_connections.ensures
     c.in_ok-write_watches.ensures c.in_ok-write_transactions.ensures c.in_ok-write_nodes.ensures c.in_ok-write_marks.ensures c.in_ok-write_end.ensures

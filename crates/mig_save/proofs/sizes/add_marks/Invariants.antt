@@ -1,0 +1,6 @@
+use Rattle.std.proofs.Common.{◌≡◌, ◌+◌, length, take}
+use Rattle.mig_save.specs.Texts.{all_marks_text}
+use Rattle.mig_save.proofs.sizes.add_marks.Given as goal
+
+abbrev pub invariant-loop-entry : goal.invariant-loop-entry
+invariant-loop-entry l = l.total ≡ l.fn.count + length (all_marks_text (take l.entry-index l.conns) l.tree.nodes l.rows.txns)
