@@ -30,10 +30,10 @@ short_at (m ∷ made) zero w all is = subst IsShort (sym (from_Some is)) (askabl
 short_at (m ∷ made) (suc place) w all is = short_at made place w all.1 is
 
 module _ (c : ℕ) where
-  abbrev made_text : Made → List ℕ
+  abbrev pub made_text : Made → List ℕ
   made_text m = canonical_record (watch_record c m.watch)
 
-  as_made : (made : List Made) → watches_text c (watches_in made) ≡ flat_map made_text made
+  pub as_made : (made : List Made) → watches_text c (watches_in made) ≡ flat_map made_text made
   as_made made = flat_map-map (λ (w : Watch). canonical_record (watch_record c w)) (λ (m : Made). m.watch) made
 
   pub watches_more : (before out now : List ℕ) (made : List Made) (i : ℕ) (d : Made) → i < length made → out ≡ before ++ watches_text c (watches_in (take i made))

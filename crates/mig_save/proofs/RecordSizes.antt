@@ -4,7 +4,6 @@ use Rattle.std.specs.Prelude.{slice_get}
 use Rattle.std.specs.List.{concat, flat_map, AllByRecursion}
 use Rattle.std.specs.Option.{option_map}
 use Rattle.std.proofs.lemmas.List.{length-replicate, take_more, flat_map_more}
-use Rattle.std.proofs.lemmas.List.Folds.{flat_map-map}
 use Rattle.xs_model.specs.Paths.{Path, text}
 use Rattle.xs_model.specs.Trees.{Node, Tree}
 use Rattle.xs_model.specs.Watches.{Watch}
@@ -22,6 +21,7 @@ use Rattle.watch_table.specs.Tables.{Made, watches_in}
 use Rattle.txn_access.specs.Entries.{Entry, entry_of}
 use Rattle.conn_rows.specs.Rows.{Txns}
 use Rattle.mig_save.specs.Told.{told_text}
+use Rattle.mig_save.proofs.MadeWatches.{made_text, as_made}
 use Rattle.mig_save.specs.Texts.{watches_text, transactions_text, mark_text, marks_text}
 
 by_fields : (r : StreamRecord) (n : ℕ) → written_len r ≡ n → length (concat (fields (u16_bytes 0) r)) ≡ need r → length (canonical_record r) ≡ whole_size n
@@ -81,17 +81,11 @@ size_more text before so_far now xs i d lt was more =
     omega (arith, was, more, ap length grown, length-append (flat_map text (take i xs)) (text (get_or xs i d)))
 
 module _ (c : ℕ) where
-  abbrev made_text : Made → List ℕ
-  made_text m = canonical_record (watch_record c m.watch)
-
-  as_made : (made : List Made) → watches_text c (watches_in made) ≡ flat_map made_text made
-  as_made made = flat_map-map (λ (w : Watch). canonical_record (watch_record c w)) (λ (m : Made). m.watch) made
-
   pub watches_size_more : (before so_far now : ℕ) (made : List Made) (i : ℕ) (d : Made) → i < length made → so_far ≡ before + length (watches_text c (watches_in (take i made)))
       → now ≡ so_far + length (canonical_record (watch_record c (get_or made i d).watch)) → now ≡ before + length (watches_text c (watches_in (take (i + 1) made)))
   watches_size_more before so_far now made i d lt was more =
-      size_more made_text before so_far now made i d lt (was ∙ ap (λ (x : List ℕ). before + length x) (as_made (take i made))) more
-      ∙ ap (λ (x : List ℕ). before + length x) (sym (as_made (take (i + 1) made)))
+      size_more (made_text c) before so_far now made i d lt (was ∙ ap (λ (x : List ℕ). before + length x) (as_made c (take i made))) more
+      ∙ ap (λ (x : List ℕ). before + length x) (sym (as_made c (take (i + 1) made)))
 
 -- what is told of a mark is the mark
 told_is_mark : (tree : Tree) (c tx : ℕ) (p : Path) (mark : Mark) → told_text tree c tx (entry_of (p, mark)) ≡ mark_text tree c tx (p, mark)

@@ -6,6 +6,7 @@ use Rattle.std.specs.FinMap.{find}
 use Rattle.xs_model.specs.Wholes.{whole_behind}
 use Rattle.xs_model.proofs.Maps.{found_map, not_both}
 use Rattle.machine_model.specs.History.{bytes_or_none}
+use Rattle.machine_model.specs.declared.bounds.TheConstants.{CROWD_LIMIT}
 use Rattle.out_queues.specs.Queues.{Queue}
 use Rattle.conn_rows.specs.Rows.{Row}
 use Rattle.conn_rows.specs.Queued.{unsent_of, rests_of}
@@ -25,6 +26,9 @@ module _ (c : ℕ) (queues : List (ℕ × Queue)) (row : Option Row) (is : optio
 
   pub rest_told : or_zero (option_map (λ (r : Row). r.queue.rest) row) ≡ rest_of c (rests_of queues)
   rest_told = ap or_zero (told (λ (q : Queue). q.rest))
+
+pub crowd : CROWD_LIMIT ≤ 16777216
+crowd = omega arith
 
 -- a rest is no longer than the bytes
 pub rest_within : (n : ℕ) (bytes : List ℕ) → whole_behind n bytes ≡ true → n ≤ length bytes

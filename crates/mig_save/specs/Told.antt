@@ -10,8 +10,7 @@ use Rattle.txn_access.specs.declared.entry.EntryKind.{EntryKind}
 use Rattle.txn_access.specs.declared.entry.EntryKind.TheVariants as kind
 
 abbrev pub told_access : EntryKind → Bool → ℕ
-told_access kind.Seen false = 1
-told_access kind.Seen true = 32769
+told_access kind.Seen changed = access_number changed 1
 told_access kind.Wrote changed = access_number changed 2
 told_access kind.Gone changed = access_number changed 0
 told_access kind.Kept changed = 49152

@@ -1,6 +1,7 @@
 //! The state of a store as a migration stream (xenstore-migration.md).
 //!
 //! [`image_of`] writes the one stream that tells a state, in one pass over the parts of the store for each kind of record.
+//! The same passes count its bytes before, so that its memory is taken at once.
 #![tactic(auto)]
 
 mod connections;

@@ -1,8 +1,9 @@
 //! The records of what transactions keep.
 
-ghost use Rattle.std.specs.Prelude.{◌≡◌, ◌++◌, OnOk};
+ghost use Rattle.std.specs.Prelude.{◌≡◌, ◌<◌, ◌++◌, OnOk};
 ghost use Rattle.std.specs.Option.{option_copied};
 ghost use Rattle.kept_model.specs.Sound.{FoundFits, NodesFit, MarksFit};
+ghost use Rattle.kept_model.specs.Images.{access_number};
 ghost use Rattle.txn_access.specs.Entries.{entry_at};
 ghost use Rattle.mig_save.specs.Told.{told_access, told_node, told_text, ToldFits};
 ghost use Rattle.mig_save.specs.Texts.{marks_text, txns_text, all_marks_text, TxnsFit, AllTxnsFit};
@@ -17,14 +18,27 @@ use txn_access::{Entries, EntryKind, Txn};
 use xs_base::{Bytes, NoMemory};
 use xs_path::Path;
 
+/// The highest bit of an access says that others changed the path.
+const OTHERS: u16 = 32768;
+
+/// The access of a path that the transaction did not touch, and others changed.
+const UNTOUCHED: u16 = 49152;
+
+fn with_others(changed: bool, low: u16) -> u16
+    requires { low < 32768 }
+    ensures { result ≡ access_number changed low }
+{
+    if changed { low + OTHERS } else { low }
+}
+
 fn access_of(kind: EntryKind, changed: bool) -> u16
     ensures { result ≡ told_access kind changed }
 {
     match kind {
-        EntryKind::Seen => if changed { 32769 } else { 1 },
-        EntryKind::Wrote => if changed { 32770 } else { 2 },
-        EntryKind::Gone => if changed { 32768 } else { 0 },
-        EntryKind::Kept => 49152,
+        EntryKind::Seen => with_others(changed, 1),
+        EntryKind::Wrote => with_others(changed, 2),
+        EntryKind::Gone => with_others(changed, 0),
+        EntryKind::Kept => UNTOUCHED,
     }
 }
 

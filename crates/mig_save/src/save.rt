@@ -46,8 +46,8 @@ fn image_len(parts: &PartsRef<'_>, ins: &Ins) -> Result<usize, NoMemory>
 /// not answered yet.
 ///
 /// Its bytes are counted first, so that it is written once, into memory that is taken at once. It is refused for want of
-/// memory alone. O(bytes of the image), O(log connections) a connection, and O(log nodes)
-/// comparisons of paths for each path that a transaction looked at and nobody changed.
+/// memory alone. O(bytes of the image), O(log connections) a connection, and O(log nodes) comparisons of paths for each
+/// path that a transaction looked at and nobody changed.
 pub fn image_of(alloc: Global, parts: &PartsRef<'_>, ins: &Ins) -> Result<Bytes, NoMemory>
     requires sound { IsSound (state_of (kept_lent parts.now) ins.now.entries) }
     ensures { IfOk result (λ bytes. bytes ≡ image (state_of (kept_lent parts.now) ins.now.entries)) }

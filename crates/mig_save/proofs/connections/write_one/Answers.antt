@@ -1,16 +1,12 @@
-use Rattle.std.proofs.Common.{◌≡◌, ◌++◌, ap, ◌∙◌, arith, length, ◌≤◌}
+use Rattle.std.proofs.Common.{◌≡◌, ◌++◌, ap, ◌∙◌, arith, length}
 use Rattle.std.proofs.lemmas.Result.{on_ok_weaker}
 use Rattle.std.specs.Option.{option_copied}
 use Rattle.stream_model.specs.Record.{ConnectionData, connection_data}
 use Rattle.stream_model.specs.Spelling.{canonical_record}
 use Rattle.machine_model.specs.History.{bytes_or_none}
-use Rattle.machine_model.specs.declared.bounds.TheConstants.{CROWD_LIMIT}
 use Rattle.mig_save.specs.Texts.{connection_data_of, connection_text}
-use Rattle.mig_save.proofs.Rows.{unsent_told, rest_told, rest_within}
+use Rattle.mig_save.proofs.Rows.{crowd, unsent_told, rest_told, rest_within}
 use Rattle.mig_save.proofs.connections.write_one.Goals as goal
-
-crowd : CROWD_LIMIT ≤ 16777216
-crowd = omega arith
 
 pub overflow_cast-rest : goal.overflow_cast-rest
 overflow_cast-rest c =

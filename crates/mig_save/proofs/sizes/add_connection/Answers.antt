@@ -1,18 +1,14 @@
-use Rattle.std.proofs.Common.{◌≡◌, ◌≤◌, ℕ, ◌+◌, length, sym, ap, ◌∙◌, arith}
+use Rattle.std.proofs.Common.{◌≡◌, ℕ, ◌+◌, length, sym, ap, ◌∙◌, arith}
 use Rattle.std.proofs.lemmas.Result.{IfOk-weaker}
 use Rattle.std.specs.Option.{option_copied}
 use Rattle.stream_model.specs.Record.{ConnectionData, connection_data}
 use Rattle.stream_model.specs.Spelling.{whole_size, canonical_record}
 use Rattle.machine_model.specs.History.{bytes_or_none}
-use Rattle.machine_model.specs.declared.bounds.TheConstants.{CROWD_LIMIT}
 use Rattle.kept_model.proofs.SaveFields.{spec_length}
 use Rattle.mig_save.specs.Texts.{connection_data_of, connection_text}
-use Rattle.mig_save.proofs.Rows.{unsent_told}
+use Rattle.mig_save.proofs.Rows.{crowd, unsent_told}
 use Rattle.mig_save.proofs.RecordSizes.{connection_size}
 use Rattle.mig_save.proofs.sizes.add_connection.Goals as goal
-
-crowd : CROWD_LIMIT ≤ 16777216
-crowd = omega arith
 
 pub whole_size-requires : goal.whole_size-requires
 whole_size-requires c =
