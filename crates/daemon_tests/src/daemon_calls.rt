@@ -61,7 +61,8 @@ fn ring(domid: u16) -> ConnSpec
 
 /// What comes of a message. A test looks at its answer alone, and proves sooner without the clauses behind it.
 fn submit(daemon: &mut Daemon, conn: u32, message: &[u8]) -> Result<Submit, NoMemory>
-    requires { 16 ≤ length message.now }
+    requires head { 16 ≤ length message.now }
+    requires short { length message.now ≤ 4112 }
 {
     daemon.submit(conn, message)
 }
