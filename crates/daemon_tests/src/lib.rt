@@ -1,10 +1,6 @@
-//! Tests of the store, the world and the runner of scripts. They stand in a crate of their own, since a
-//! crate that has tests is proved a second time for them.
+//! Tests of the store. They stand in a crate of their own, since a crate that has tests is proved a second
+//! time for them.
 #![tactic(auto)]
 
 #[cfg(test)]
 mod daemon_calls;
-#[cfg(test)]
-mod world_core_calls;
-#[cfg(test)]
-mod xs_drive_calls;
