@@ -3,9 +3,9 @@ use std::io;
 use std::io::{Read, Write};
 use std::test::Fail;
 use xs_base::{
-    ByteQueue, Bytes, Calls, Failed, Gate, HexFault, MemSink, MemSource, NumFault, OpenGate, Sink,
-    Source, StdSink, StdSource, SureSink, SureSource, SureVault, Vault, hex_pair, push_decimal,
-    push_hex, push_hex_between, read_decimal, read_hex,
+    Alter, Alters, ByteQueue, Bytes, Calls, Failed, Gate, HexFault, MemSink, MemSource, MemVault,
+    NumFault, OpenGate, Sink, Source, StdSink, StdSource, SureSink, SureSource, SureVault, Vault,
+    VaultErr, hex_pair, push_decimal, push_hex, push_hex_between, read_decimal, read_hex,
 };
 
 #[test]
@@ -158,6 +158,29 @@ fn vault_keeps_the_last(rt: HostRuntime) -> Result<(), Fail> {
         vault.put(text.as_bytes())?;
         assert_eq!(rt; vault.get()?.as_slice(), text.as_bytes());
     }
+    Ok(())
+}
+
+#[test]
+fn vault_fails_and_alters_by_number(rt: HostRuntime) -> Result<(), Fail> {
+    let mut put_fails = Calls::new(rt.alloc());
+    put_fails.push(1)?;
+    let mut get_fails = Calls::new(rt.alloc());
+    get_fails.push(0)?;
+    let mut alters = Alters::new(rt.alloc());
+    for (get, at, byte) in [(1, 2, b'x'), (1, 3, b'y'), (2, 0, b'z')] {
+        alters.push(Alter { get, at, byte })?;
+    }
+    let mut vault = MemVault::new(rt.alloc(), put_fails, get_fails, alters);
+    vault.give(3, Bytes::copy(rt.alloc(), b"another")?);
+    assert!(rt; vault.put(b"one").is_ok());
+    assert_eq!(rt; vault.put(b"two").err(), Some(VaultErr::Failed));
+    assert_eq!(rt; vault.get().err(), Some(VaultErr::Failed));
+    for want in ["onx", "zne", "another", "one"] {
+        assert_eq!(rt; vault.get()?.as_slice(), want.as_bytes(), "at {want}");
+    }
+    assert_eq!(rt; vault.put_at(0), Some(b"one".as_slice()));
+    assert_eq!(rt; vault.put_at(1), None);
     Ok(())
 }
 

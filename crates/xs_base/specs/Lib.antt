@@ -3,6 +3,7 @@ pub mod ByteQueue
 pub mod Faults
 pub mod MemSink
 pub mod MemSource
+pub mod MemVault
 pub mod Memory
 pub mod Tally
 pub mod Vault

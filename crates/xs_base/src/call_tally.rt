@@ -33,6 +33,13 @@ impl CallTally {
         }
     }
 
+    // How many calls came.
+    pub(crate) fn calls(&self) -> u64
+        ensures { result ≡ self.now.calls }
+    {
+        self.calls
+    }
+
     // Whether the next call is to fail. O(number of calls that are).
     pub(crate) fn is_due(&self) -> bool
         ensures { result ≡ is_due self.now }
