@@ -126,5 +126,7 @@ fn puts_items_where_memory_was_reserved(rt: HostRuntime) -> Result<(), Fail> {
     map.put(3, 30);
     map.put(3, 31);
     assert_eq!(rt; (map.len(), map.get(3).copied()), (1, Some(31)));
+    let entries = map.into_vec();
+    assert_eq!(rt; entries.as_slice(), [(3, 31)].as_slice());
     Ok(())
 }

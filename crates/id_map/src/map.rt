@@ -162,6 +162,14 @@ impl<T> IdMap<T> {
         self.entries.as_slice()
     }
 
+    /// All items with their ids, in rising order of the ids, given away. O(1).
+    pub fn into_vec(self) -> Vec<(u32, T)>
+        ensures entries { result.items ≡ self.entries }
+        ensures rising { is_sorted nat_cmp result.items ≡ true }
+    {
+        self.entries
+    }
+
     /// The least id above this one that has an item, whether this one has an item or not. O(log items).
     pub fn next_after(&self, id: u32) -> Option<u32>
         ensures next { result ≡ first_id (above id self.now.entries) }
