@@ -7,9 +7,10 @@ use Rattle.std.specs.FinMap.{is_sorted}
 use Rattle.std.specs.FinMap.Entries.{below_all}
 use Rattle.std.specs.List.{list_all}
 use Rattle.std.specs.List.Sorted.{IsSearchInRange, IsBinarySearchResult, IsSortedBy}
-use Rattle.std.proofs.lemmas.List.{get_or-take, get_or-drop, length-take, length-drop}
+use Rattle.std.proofs.lemmas.List.{get_or-take, get_or-drop, length-take, length-drop, get_or_default, take_all, drop_all}
 use Rattle.std.proofs.lemmas.List.Sorted.{searchable_from_sorted}
 use Rattle.path_map.specs.Places.{IsAt, IsGapFor}
+use Rattle.path_map.proofs.Rising.{pair, is_less, is_greater}
 
 -- a test at each place is a test of the list
 pub all_from_places : {A : Type 0} (test : A → Bool) (xs : List A) → ((k : ℕ) (d : A) → k < length xs → test (get_or xs k d) ≡ true) → list_all test xs ≡ true
@@ -66,3 +67,30 @@ module _ {K X : Type 0} (R : K → K → Ordering) (o : IsTotalOrder R) (same : 
               ∙ less (get_or es (i + j) d) (parts.1 (i + j) d (omega arith) (omega (arith, length-drop i es))));
         };
       }
+
+  farther : (x y : K) → is_lt (R x y) ≡ true → is_gt (R k y) ≡ true → is_gt (R k x) ≡ true
+  farther x y below behind =
+      ap is_gt (o.antisymm k x ∙ ap ordering_reverse (o.trans x y k (is_less (R x y) below) (o.antisymm y k ∙ ap ordering_reverse (is_greater (R k y) behind))))
+
+  -- a key behind the last one stands behind all
+  behind_all : (fs : List (K × X)) → is_sorted R fs ≡ true → (i : ℕ) (d : K × X) → suc i ≡ length fs → R (get_or fs i d).0 k ≡ Less → list_all (λ e. is_gt (R k e.0)) fs ≡ true
+  behind_all [] h i d n last = absurd (omega (arith, n))
+  behind_all (e ∷ []) h zero d n last = pair (is_gt (R k e.0)) true (greater e last) refl
+  behind_all (e ∷ []) h (suc i) d n last = absurd (omega (arith, n))
+  behind_all (e ∷ f ∷ fs) h zero d n last = absurd (omega (arith, n))
+  behind_all (e ∷ f ∷ fs) h (suc i) d n last =
+      let parts = split (below_all R e.0 (f ∷ fs)) (is_sorted R (f ∷ fs)) h in
+      let rest = behind_all (f ∷ fs) parts.1 i d (omega (arith, n)) last in
+      let first = (split (is_gt (R k f.0)) (list_all (λ e. is_gt (R k e.0)) fs) rest).0 in
+      pair (is_gt (R k e.0)) (list_all (λ e. is_gt (R k e.0)) (f ∷ fs)) (farther e.0 f.0 (split (is_lt (R e.0 f.0)) (below_all R e.0 fs) parts.0).0 first) rest
+
+  -- so its place is behind them
+  pub gap_behind : (i : ℕ) (d : K × X) → is_sorted R es ≡ true → suc i ≡ length es → R (get_or es i d).0 k ≡ Less → IsGapFor R es k (length es)
+  gap_behind i d h n last = record {
+    within = omega arith;
+    before = ap (list_all (λ e. is_gt (R k e.0))) (take_all (length es) es (omega arith)) ∙ behind_all es h i d n last;
+    behind = ap (list_all (λ e. is_lt (R k e.0))) (drop_all (length es) es (omega arith));
+  }
+
+  pub found_at : (i : ℕ) (d : K × X) → i < length es → R (get_or es i d).0 k ≡ Equal → IsAt R es k i
+  found_at i d within equal = record { within = within; key = λ e. same _ _ (ap (λ (x : K × X). R x.0 k) (get_or_default es i e d within) ∙ equal) }

@@ -12,7 +12,7 @@ use std::alloc::Global;
 use xs_base::NoMemory;
 use xs_path::Path;
 
-/// The chunk to which a path belongs, of those from `low` to before `high`.
+/// The chunk to which a path belongs, of those from `low` to before `high`. One comparison where that is the last one.
 pub fn chunk_between<T>(chunks: &[Chunk<T>], path: &Path, low: usize, high: usize) -> usize
     requires rising { is_sorted path_cmp (joined chunks.now) ≡ true }
     requires filled { All (λ c. 0 < length c) chunks.now }
@@ -21,6 +21,9 @@ pub fn chunk_between<T>(chunks: &[Chunk<T>], path: &Path, low: usize, high: usiz
     ensures high { result < high }
     ensures range { IsRangeFor path.now chunks.now result (result + 1) }
 {
+    if low + 1 < high && !chunks[high - 1].begins_behind(path) {
+        return high - 1;
+    }
     let mut from = low;
     let mut to = high;
     'halves: while from + 1 < to {

@@ -7,14 +7,24 @@ ghost use Rattle.path_map.specs.Marks.{IsPastFrom};
 ghost use Rattle.path_map.specs.Places.{IsAt, IsGapFor};
 
 use crate::names;
+use std::cmp::Ordering;
 use xs_path::Path;
 
-/// The place of a path among entries in order, or else the place at which it would stand.
+/// The place of a path among entries in order, or else the place at which it would stand. One comparison for the last entry
+/// and for a path behind it, so that paths that come in order are not searched for.
 pub fn place_of<T>(entries: &[(Path, T)], path: &Path) -> Result<usize, usize>
     requires { is_sorted path_cmp entries.now ≡ true }
     ensures found { IfOk result (IsAt path_cmp entries.now path.now) }
     ensures absent { IfErr result (IsGapFor path_cmp entries.now path.now) }
 {
+    let count = entries.len();
+    if count > 0 {
+        match entries[count - 1].0.cmp(path) {
+            Ordering::Less => return Err(count),
+            Ordering::Equal => return Ok(count - 1),
+            Ordering::Greater => {}
+        }
+    }
     entries.binary_search_by(|entry| entry.0.cmp(path))
 }
 
