@@ -15,6 +15,10 @@ pub all_of_queues : (P : ℕ × Queue → Type 0) (rows : List (ℕ × Row)) →
 all_of_queues P [] h = tt
 all_of_queues P (e ∷ rows) h = (h.0, all_of_queues P rows h.1)
 
+pub all_to_queues : (P : ℕ × Queue → Type 0) (rows : List (ℕ × Row)) → AllByRecursion (λ e. P (e.0, e.1.queue)) rows → AllByRecursion P (queues_of rows)
+all_to_queues P [] h = tt
+all_to_queues P (e ∷ rows) h = (h.0, all_to_queues P rows h.1)
+
 -- THE PARTS of what is seen
 abbrev bytes_of : List (ℕ × Seen) → Unsent
 bytes_of seen = map (λ e. (e.0, e.1.0)) seen

@@ -62,6 +62,13 @@ impl Row {
         &self.queue
     }
 
+    /// Behind the rest of a message in front, what is unsent is whole messages. O(1).
+    pub fn is_whole(&self)
+        ensures { whole_behind self.now.queue.rest self.now.queue.bytes ≡ true }
+    {
+        let _unsent = self.queue.bytes();
+    }
+
     /// The open transactions, in rising order of their numbers. O(1).
     pub fn txns(&self) -> &[(u32, Txn)]
         ensures txns { result.now ≡ self.now.txns }

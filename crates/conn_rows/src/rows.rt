@@ -115,6 +115,16 @@ impl Rows {
         self.rows.entries()
     }
 
+    /// Behind the rest of a message in front, what is unsent to each connection is whole messages. O(connections).
+    pub fn are_whole(&self)
+        ensures { AllByRecursion (λ e. whole_behind e.1.rest e.1.bytes ≡ true) self.now.queues }
+    {
+        let rows = self.rows.entries();
+        for entry in rows {
+            entry.1.is_whole();
+        }
+    }
+
     /// The row of a connection, if it is there. O(log connections).
     pub fn row(&self, conn: u32) -> Option<&Row>
         ensures queue { option_map (λ row. row.queue) (option_copied result) ≡ find nat_cmp conn self.now.queues }

@@ -9,6 +9,7 @@ pub mod ShapeLemmas
 pub mod DoorLemmas
 pub mod UnsentLemmas
 pub mod WholeLemmas
+pub mod StateLemmas
 pub mod ActLemmas
 pub mod DomainLemmas
 pub mod WatchLemmas

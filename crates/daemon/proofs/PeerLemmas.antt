@@ -138,7 +138,7 @@ pub table_is_small : (specs : Specs) → IsSoundTable specs → length specs ≤
 table_is_small specs sound = let small = tables_are_small specs sound.table (domains specs sound.bounds) in omega (arith, small.most, sound.sockets)
 
 -- THE CONNECTIONS WITH THEIR QUEUES
-short_queues : (queues : List (ℕ × Queue)) → AllByRecursion (λ e. length e.1 ≤ CROWD_LIMIT) (unsent_of queues) → AllByRecursion (λ e. length e.1.bytes ≤ CROWD_LIMIT) queues
+pub short_queues : (queues : List (ℕ × Queue)) → AllByRecursion (λ e. length e.1 ≤ CROWD_LIMIT) (unsent_of queues) → AllByRecursion (λ e. length e.1.bytes ≤ CROWD_LIMIT) queues
 short_queues [] h = tt
 short_queues (e ∷ es) h = (h.0, short_queues es h.1)
 

@@ -76,7 +76,7 @@ same_socket : (spec : ConnSpec) → is_socket_end spec ≡ is_socket spec
 same_socket (Ring domid target evtchn) = refl
 same_socket (Socket fd) = refl
 
-sockets_counted : (specs : Specs) (watched : Watched) → count_ends is_socket_end (conns_of specs watched) ≡ count_sockets specs
+pub sockets_counted : (specs : Specs) (watched : Watched) → count_ends is_socket_end (conns_of specs watched) ≡ count_sockets specs
 sockets_counted [] watched = refl
 sockets_counted ((id, Ring domid target evtchn) ∷ es) watched = sockets_counted es watched
 sockets_counted ((id, Socket fd) ∷ es) watched = let rest = sockets_counted es watched in omega (arith, rest)

@@ -5,3 +5,4 @@ pub mod Asks
 pub mod Changes
 pub mod Commands
 pub mod Submits
+pub mod Ids

@@ -2,6 +2,7 @@
 
 ghost use Rattle.std.specs.Prelude.{◌≡◌, ◌≤◌, ◌<◌, ◌==◌, not, true, false, List, ℕ, [], ◌++◌, length, map, Some, None, is_some, IfOk, OnOk, OnErr, IsErrOf, ◌↔◌};
 ghost use Rattle.std.specs.Option.{option_map};
+ghost use Rattle.std.specs.List.{AllByRecursion};
 ghost use Rattle.std.specs.Ordering.{nat_cmp};
 ghost use Rattle.std.specs.FinMap.{find, put};
 ghost use Rattle.std.specs.FinMap.Entries.{where_key};
@@ -73,6 +74,13 @@ impl Peers {
         ensures { result ≡ option_map (λ queue. length queue.bytes) (find nat_cmp conn self.now.queues) }
     {
         self.rows.unsent(conn)
+    }
+
+    /// Behind the rest of a message in front, what is unsent to each connection is whole messages. O(connections).
+    pub fn are_whole(&self)
+        ensures { AllByRecursion (λ e. whole_behind e.1.rest e.1.bytes ≡ true) self.now.queues }
+    {
+        self.rows.are_whole();
     }
 
     /// Adds a connection to which nothing is unsent. Refused, nothing has changed. It moves the connections of higher

@@ -1,6 +1,6 @@
 //! The daemon.
 
-ghost use Rattle.std.specs.Prelude.{◌≡◌, ◌↔◌, ◌<◌, ◌≤◌, ◌∷◌, true, ℕ, List, Some, [], length, take, IfOk, OnOk, OnErr, IsErrOf, is_some, option_map};
+ghost use Rattle.std.specs.Prelude.{◌≡◌, ◌↔◌, ◌<◌, ◌≤◌, ◌∷◌, true, ℕ, List, Some, [], length, take, IfOk, OnOk, OnErr, IsErrOf, is_some, option_map, map};
 ghost use Rattle.std.specs.List.{AllByRecursion};
 ghost use Rattle.std.specs.Ordering.{nat_cmp};
 ghost use Rattle.std.specs.FinMap.{find};
@@ -8,10 +8,14 @@ ghost use Rattle.machine_model.specs.declared.bounds.TheConstants.{HELD_LIMIT};
 ghost use Rattle.machine_model.specs.Connections.{ring_of};
 ghost use Rattle.machine_model.specs.Machine.{Machine, new_machine};
 ghost use Rattle.conn_table.specs.Tables.{IsTable, is_taken, is_socket, count_sockets};
-ghost use Rattle.store_parts.specs.Kept.{kept_lent};
-ghost use Rattle.kept_model.specs.Sound.{IsSoundStore, SpecFits};
+ghost use Rattle.xs_model.specs.Generations.{greatest};
+ghost use Rattle.watchers.specs.Watched.{AreOwn};
+ghost use Rattle.store_parts.specs.Kept.{kept_in, kept_lent};
+ghost use Rattle.store_parts.specs.States.{Inboxes, state_of};
+ghost use Rattle.kept_model.specs.Sound.{IsSound, IsSoundStore, SpecFits, GlobalsFit};
 ghost use Rattle.daemon.specs.Keeps.{StandsFor, no_globals, store_of};
 ghost use Rattle.conn_rows.specs.Queued.{unsent_of};
+ghost use Rattle.daemon.specs.Ids.{AreIds};
 ghost use Rattle.daemon.specs.Peers.{IsInBounds, IsSoundTable};
 ghost use Rattle.daemon.specs.Acts.{IsAsBefore, IsWhole, kept_by};
 ghost use Rattle.daemon.specs.Submits.{StepsIfDone, Submits, Pulled, Adds, Drops};
@@ -26,7 +30,7 @@ use machine_model::HELD_LIMIT;
 use node_tree::Tree;
 use std::alloc::Global;
 use std::marker::Model;
-use store_parts::{Globals, PartsRef};
+use store_parts::{Globals, Parts, PartsRef};
 use xs_base::NoMemory;
 
 /// The store, and the bytes that it has still to send.
@@ -73,6 +77,37 @@ impl Daemon {
             },
             reply: [0; MESSAGE_MAX],
         })
+    }
+
+    /// A store of these parts, with what they keep. It takes no memory. O(log connections).
+    pub fn of(alloc: Global, parts: Parts) -> Daemon
+        requires queues { map (λ e. e.0) parts.rows.queues ≡ map (λ e. e.0) parts.conns }
+        requires txns { map (λ e. e.0) parts.rows.txns ≡ map (λ e. e.0) parts.conns }
+        requires own { AreOwn parts.conns parts.watchers }
+        requires watching { AllByRecursion (λ e. is_some (find nat_cmp e.0 parts.conns) ≡ true) parts.watchers }
+        requires counter { parts.tree.counter ≡ greatest parts.tree.gens }
+        requires sound { IsSound (state_of (kept_in parts) []) }
+        ensures { result ≡ kept_in parts }
+    {
+        let Parts {
+            conns,
+            watchers,
+            rows,
+            tree,
+            globals,
+        } = parts;
+        is_table(&conns);
+        Daemon {
+            alloc,
+            tree,
+            peers: Peers {
+                conns,
+                watchers,
+                rows,
+            },
+            globals,
+            reply: [0; MESSAGE_MAX],
+        }
     }
 
     /// Adds a connection, without watches and transactions. It is refused as taken exactly where its id is there or,
@@ -172,11 +207,15 @@ impl Daemon {
         self.peers.conns()
     }
 
-    /// The store that is kept is sound. O(1).
+    /// The store that is kept is sound, and so is its state with inboxes of at most 16777216 bytes each, which can be told
+    /// by a stream. O(connections).
     pub fn is_sound(&self)
-        ensures { IsSoundStore (store_of self.now) }
+        ensures store { IsSoundStore (store_of self.now) }
+        ensures state { (ins : Inboxes) → AllByRecursion (λ e. length e.1 ≤ 16777216) ins → IsSound (state_of self.now ins) }
+        ensures ids { AreIds self.now }
     {
-        let _tree = &self.tree;
+        self.peers.are_whole();
+        globals_fit(self.globals);
     }
 
     /// The parts of the store, as they are kept. O(1).
@@ -191,6 +230,21 @@ impl Daemon {
             globals: self.globals,
         }
     }
+}
+
+/// Other ends that are kept as a table are one. O(log connections).
+fn is_table(conns: &Conns)
+    ensures { IsTable conns.now }
+{
+    let _ring = conns.by_domid(0);
+}
+
+/// The descriptors have as many bits as those that a stream has for them.
+fn globals_fit(globals: Globals)
+    ensures { GlobalsFit globals }
+{
+    let _rw_socket = globals.rw_socket_fd;
+    let _evtchn = globals.evtchn_fd;
 }
 
 /// The numbers of an end have as many bits as those that a stream has for them.
