@@ -1,6 +1,7 @@
 //! The whole image.
 
-ghost use Rattle.std.specs.Prelude.{◌≡◌, ◌++◌, IfOk, OnOk, length};
+ghost use Rattle.std.specs.Prelude.{◌≡◌, ◌≤◌, ◌++◌, IfOk, OnOk, length};
+ghost use Rattle.std.specs.List.{AllByRecursion};
 ghost use Rattle.stream_model.specs.Spelling.{canonical_record};
 ghost use Rattle.kept_model.specs.Sound.{IsSound};
 ghost use Rattle.kept_model.specs.Images.{globals_record, image};
@@ -14,6 +15,7 @@ use crate::scratch::Scratch;
 use crate::sizes::{add_connections, add_marks, add_nodes, add_transactions, add_watches};
 use crate::transactions::write_transactions;
 use crate::watches::write_watches;
+use daemon::Daemon;
 use mig_records::{write_end, write_global, write_header};
 use msg_reassembly::Ins;
 use std::alloc::Global;
@@ -64,4 +66,14 @@ pub fn image_of(alloc: Global, parts: &PartsRef<'_>, ins: &Ins) -> Result<Bytes,
     write_marks(&mut out, &mut scratch, parts.conns, parts.rows, parts.tree)?;
     write_end(&mut out)?;
     Ok(out)
+}
+
+/// The image of a running store, which goes on. It is refused for want of memory alone, and costs what [`image_of`] does.
+pub fn save(alloc: Global, daemon: &Daemon, ins: &Ins) -> Result<Bytes, NoMemory>
+    requires inboxes { AllByRecursion (λ e. length e.1 ≤ 16777216) ins.now.entries }
+    ensures { IfOk result (λ bytes. bytes ≡ image (state_of daemon.now ins.now.entries)) }
+{
+    daemon.is_sound();
+    let parts = daemon.parts();
+    image_of(alloc, &parts, ins)
 }

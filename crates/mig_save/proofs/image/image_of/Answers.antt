@@ -2,7 +2,7 @@ use Rattle.std.proofs.Common.{ℕ, List, ◌++◌, ap, ◌∙◌}
 use Rattle.stream_model.specs.Spelling.{header}
 use Rattle.mig_save.proofs.SoundParts.{all_txns_fit, conns_fit}
 use Rattle.mig_save.proofs.Phases.{image_is}
-use Rattle.mig_save.proofs.save.image_of.Goals as goal
+use Rattle.mig_save.proofs.image.image_of.Goals as goal
 
 pub write_connections-requires : goal.write_connections-requires
 write_connections-requires c =

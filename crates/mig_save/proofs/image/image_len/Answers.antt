@@ -6,7 +6,7 @@ use Rattle.store_parts.specs.States.{state_of}
 use Rattle.mig_save.specs.Texts.{all_marks_text}
 use Rattle.mig_save.proofs.SoundParts.{all_txns_fit, conns_fit}
 use Rattle.mig_save.proofs.Phases.{image_size}
-use Rattle.mig_save.proofs.save.image_len.Goals as goal
+use Rattle.mig_save.proofs.image.image_len.Goals as goal
 
 pub add_connections-requires : goal.add_connections-requires
 add_connections-requires c =
