@@ -1,0 +1,10 @@
+pub mod TextLemmas
+pub mod TableLemmas
+pub mod NodeLemmas
+pub mod CameLemmas
+pub mod StepLemmas
+pub mod SettleLemmas
+pub mod SettleConnsLemmas
+pub mod SettledTablesLemmas
+pub mod OrphanLemmas
+pub mod SoundLemmas

@@ -1,0 +1,9 @@
+pub mod Nodes
+pub mod Came
+pub mod CameView
+pub mod Steps
+pub mod Memory
+pub mod LoadingView
+pub mod Told
+pub mod Settled
+pub mod SettledTables
