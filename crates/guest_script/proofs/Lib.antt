@@ -3,3 +3,6 @@ pub mod FieldLemmas
 pub mod DraftLemmas
 pub mod SoundLemmas
 mod SearchLemmas
+pub mod MadeLemmas
+pub mod ByteLemmas
+pub mod ReadLemmas

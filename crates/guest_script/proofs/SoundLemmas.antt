@@ -202,7 +202,7 @@ pub record IsSoundScript (script : Script) : Type 0 where
   pub domains : AllByRecursion IsSoundDomain script.domains
   pub events : AllByRecursion IsSoundEvent script.events
 
-joined_all : {A : Type 0} (P : A → Type 0) (first later : List A) → AllByRecursion P first → AllByRecursion P later → AllByRecursion P (first ++ later)
+pub joined_all : {A : Type 0} (P : A → Type 0) (first later : List A) → AllByRecursion P first → AllByRecursion P later → AllByRecursion P (first ++ later)
 joined_all P [] later holds rest = rest
 joined_all P (x ∷ first) later holds rest = (holds.0, joined_all P first later holds.1 rest)
 

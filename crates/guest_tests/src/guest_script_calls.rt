@@ -1,7 +1,7 @@
 //! Rows of scripts, whole and faulty, and of printed lines.
 
 use guest_script::{
-    DomainLine, Event, LineKind, Said, ScriptFault, Which, cut_line, print_said, read_script,
+    DomainLine, Event, LineKind, Said, ScriptFault, Which, cut_line, make, print_said, read_script,
 };
 use std::alloc::Global;
 use std::test::Fail;
@@ -230,5 +230,27 @@ fn prints_every_verb_and_answer(rt: HostRuntime) -> Result<(), Fail> {
         let line = printed(alloc, event, said)?;
         assert_eq!(rt; line.as_slice(), want.as_bytes(), "{want}");
     }
+    Ok(())
+}
+
+#[test]
+fn makes_the_script_of_a_seed(rt: HostRuntime) -> Result<(), Fail> {
+    let text = make(rt.alloc(), 10_240, 3)?;
+    let want = b"domain 1 at 0\ndomain 2 at 0\ndomain 3 at 0\n\
+        send 0 0c0000000000000000000000060000002f62756c6b00\nserve 0\n\
+        send 0 0e0000000000000000000000090000002f62756c6b00623000\nserve 0\n\
+        send 3 0600000001000000000000000100000000\nserve 3\n\
+        send 3 0b0000000200000001000000120000002f62756c6b2f312f36003832393131303135\nserve 3\n\
+        send 3 070000000300000001000000020000005400\nserve 3\n";
+    assert_eq!(rt; text.as_slice(), want.as_slice());
+    Ok(())
+}
+
+#[test]
+fn makes_a_handover_and_no_fifth_watch(rt: HostRuntime) -> Result<(), Fail> {
+    let text = make(rt.alloc(), 1912, 17)?;
+    let end = b"send 3 0d00000010000000000000000a0000002f62756c6b2f352f3600\nserve 3\nhandover\n\
+        send 1 0200000011000000000000000a0000002f62756c6b2f312f3300\nserve 1\n";
+    assert!(rt; text.as_slice().ends_with(end));
     Ok(())
 }
