@@ -6,7 +6,7 @@ use Rattle.xs_model.specs.declared.message.kind.TheConstants.{ERROR, WATCH_EVENT
 use Rattle.xs_model.specs.Messages.{Message, message_bytes, string}
 use Rattle.xs_model.specs.Requests.{all_types}
 use Rattle.world_model.specs.Transcripts.{transcript_with}
-use Rattle.model_rows.specs.Texts.{text_of}
+use Rattle.model_rows.specs.Texts.{text_of, no_stream}
 
 abbrev pub barred : List ℕ → List ℕ
 barred text = map (λ b. if b == 124 then 0 else b) text
@@ -73,4 +73,4 @@ printed (step ∷ steps) = printed_lines step ++ printed steps
 
 -- the script of the steps prints what they say
 abbrev pub Plays : List Step → Type 0
-Plays steps = transcript_with all_types (text_of (script steps)) [] ≡ text_of (printed steps)
+Plays steps = transcript_with no_stream all_types (text_of (script steps)) [] ≡ text_of (printed steps)

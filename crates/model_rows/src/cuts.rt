@@ -3,7 +3,7 @@
 ghost use Rattle.std.specs.Prelude.{◌≡◌, [], ◌∷◌, ◌++◌, codes};
 ghost use Rattle.xs_model.specs.Requests.{all_types};
 ghost use Rattle.world_model.specs.Transcripts.{transcript_with};
-ghost use Rattle.model_rows.specs.Texts.{text_of};
+ghost use Rattle.model_rows.specs.Texts.{text_of, no_stream};
 ghost use Rattle.model_rows.specs.Many.{large_write, send_line};
 ghost use Rattle.model_rows.specs.Steps.{Plays, Line};
 
@@ -67,7 +67,7 @@ pub fn poked_ahead()
 
 /// Indices wrap at 2^32: a page that starts six bytes below it.
 pub fn index_wrap()
-    ensures { transcript_with all_types (text_of (codes "domain 0 at 4294967290"
+    ensures { transcript_with no_stream all_types (text_of (codes "domain 0 at 4294967290"
         ∷ codes "send 0 0b0000000500000000000000540000002f6100787878787878787878787878787878787878787878787878787878787878787878787878787878787878787878787878787878787878787878787878787878787878787878787878787878787878787878"
         ∷ codes "put 0 1024"
         ∷ codes "page 0"
@@ -89,7 +89,7 @@ pub fn index_wrap()
 /// A message that is larger than the ring passes in two parts, and a header that asks for more than a payload may have
 /// loses the connection.
 pub fn larger_than_the_ring()
-    ensures { transcript_with all_types (text_of (send_line large_write
+    ensures { transcript_with no_stream all_types (text_of (send_line large_write
         ∷ codes "serve 0"
         ∷ codes "serve 0"
         ∷ codes "send 0 02000000010000000000000001100000"

@@ -1,11 +1,11 @@
 -- A transcript without the lines of its handovers is that of the script without handovers.
-use Rattle.std.specs.Prelude.{◌≡◌, ℕ, Bool, true, false, cond, not, List, [], ◌∷◌, ◌++◌, filter, codes}
+use Rattle.std.specs.Prelude.{◌≡◌, ℕ, Bool, true, false, cond, not, List, [], ◌∷◌, ◌++◌, filter, Option, Some, None, codes}
 use Rattle.std.proofs.Common.{refl, ap, ◌∙◌, append_assoc}
 use Rattle.world_model.specs.declared.Said.{Said}
 use Rattle.world_model.specs.Lines.{lines_of}
 use Rattle.world_model.specs.Worlds.{World, Event, Send, Put, Intake, Do, Out, Take, Poke, ShowPage, Handover, event_with}
 use Rattle.world_model.specs.Scripts.{Script}
-use Rattle.world_model.specs.Transcripts.{spaced, event_words, said_words, said_line, handover_says, later_says, is_handover, lines_from, start_of, script_lines}
+use Rattle.world_model.specs.Transcripts.{spaced, event_words, said_words, said_line, handover_says, later_says, is_handover, lines_from, lines_at, start_of, script_lines}
 use Rattle.world_laws.specs.Handovers.{text_of, tells_of_handover, without_handover_lines, without_handovers}
 use Rattle.world_laws.proofs.PlainLemmas.{Plain, words_plain, first_line}
 
@@ -47,5 +47,9 @@ module _ (types : List ℕ) where
       (handover_tells (said_words (handover_says says) []))
       ∙ run_without w es (later_says says)
 
-pub script_without : (types : List ℕ) (script : Script) (says : List Said) → without_handover_lines (script_lines types script says) ≡ script_lines types (without_handovers script) []
-script_without types script says = run_without types (start_of script) script.events says
+start_without : (types : List ℕ) (start : Option World) (es : List Event) (says : List Said) → without_handover_lines (lines_at types start es says) ≡ lines_at types start (filter (λ e. not (is_handover e)) es) []
+start_without types None es says = refl
+start_without types (Some w) es says = run_without types w es says
+
+pub script_without : (resume : List ℕ → Option World) (types : List ℕ) (script : Script) (says : List Said) → without_handover_lines (script_lines resume types script says) ≡ script_lines resume types (without_handovers script) []
+script_without resume types script says = start_without types (start_of resume script) script.events says

@@ -1,5 +1,5 @@
 -- A script's text without its lines `handover` is a text of the script without handovers.
-use Rattle.std.specs.Prelude.{◌≡◌, ℕ, ◌+◌, ◌==◌, Bool, true, false, cond, not, ◌&&◌, List, [], ◌∷◌, ◌++◌, filter, Result, Ok, Err, codes, is_ok, ◌⊎◌}
+use Rattle.std.specs.Prelude.{◌≡◌, ℕ, ◌+◌, ◌==◌, Bool, true, false, cond, not, ◌&&◌, List, [], ◌∷◌, ◌++◌, filter, Option, Result, Ok, Err, codes, is_ok, ◌⊎◌}
 use Rattle.std.specs.List.{list_any}
 use Rattle.std.specs.Str.{bytes_eq}
 use Rattle.std.specs.Cmp.Lexicographic.{bytes_decides}
@@ -10,7 +10,7 @@ use Rattle.world_model.specs.declared.LineKind.{LineKind}
 use Rattle.world_model.specs.declared.LineKind.TheVariants as kind
 use Rattle.world_model.specs.declared.Said.{Said}
 use Rattle.world_model.specs.Lines.{lines_of}
-use Rattle.world_model.specs.Worlds.{Event, Send, Put, Intake, Do, Out, Take, Poke, ShowPage, Handover, serve}
+use Rattle.world_model.specs.Worlds.{World, Event, Send, Put, Intake, Do, Out, Take, Poke, ShowPage, Handover, serve}
 use Rattle.world_model.specs.Scripts.{Script, ◌>>=◌, domid_field, word_field, count_field, hex_field, which_field, the_word, LineOf, Nothing, Resume, Domain, Events, one_event, one_field, two_fields, three_fields, domain_verb, count_verb, send_verb, poke_verb, handover_verb, resume_verb, domain_line, alone, by_verb, onto_field, fields_of, verb_line, line_of, Before, is_empty_list, may_resume, may_name, placed, past_line, with_line, LineFault, onto_script, placed_line, go_on, script_from, script_of, at_start}
 use Rattle.world_model.specs.Transcripts.{spaced, is_handover, transcript_of, transcript_with}
 use Rattle.world_laws.specs.Handovers.{without_handover_lines, without_handovers, without_handover_requests}
@@ -218,6 +218,8 @@ script_left text script e =
     ap (script_from 1 at_start) (lines_again (filter is_left (lines_of text)) (each_left Plain is_left (lines_of text) (lines_plain text)))
     ∙ script_on (lines_of text) 1 1 at_start at_start (inl refl) script e
 
-pub transcript_left : (types text : List ℕ) (script : Script) (says : List Said) → script_of text ≡ Ok script → without_handover_lines (transcript_with types text says) ≡ transcript_with types (without_handover_requests text) []
-transcript_left types text script says e =
-    ap (λ r. without_handover_lines (transcript_of types r says)) e ∙ script_without types script says ∙ sym (ap (λ r. transcript_of types r []) (script_left text script e))
+pub transcript_left : (resume : List ℕ → Option World) (types text : List ℕ) (script : Script) (says : List Said) → script_of text ≡ Ok script
+    → without_handover_lines (transcript_with resume types text says) ≡ transcript_with resume types (without_handover_requests text) []
+transcript_left resume types text script says e =
+    ap (λ r. without_handover_lines (transcript_of resume types r says)) e ∙ script_without resume types script says
+    ∙ sym (ap (λ r. transcript_of resume types r []) (script_left text script e))

@@ -1,9 +1,10 @@
 -- Handovers do not show: a script without them prints the same lines, but for those that tell of the handovers.
-use Rattle.std.specs.Prelude.{◌≡◌, ℕ, Bool, not, List, [], ◌∷◌, ◌++◌, filter, flat_map, nat_eq, Ok, codes}
+use Rattle.std.specs.Prelude.{◌≡◌, ℕ, Bool, not, List, [], ◌∷◌, ◌++◌, filter, flat_map, nat_eq, Option, Ok, codes}
 use Rattle.std.specs.List.{starts_with}
 use Rattle.std.specs.Str.{bytes_eq}
 use Rattle.world_model.specs.declared.Said.{Said}
 use Rattle.world_model.specs.Lines.{lines_of}
+use Rattle.world_model.specs.Worlds.{World}
 use Rattle.world_model.specs.Scripts.{Script, script_of}
 use Rattle.world_model.specs.Transcripts.{is_handover, script_lines, transcript_with}
 
@@ -27,11 +28,11 @@ without_handovers script =
 abbrev pub without_handover_requests : List ℕ → List ℕ
 without_handover_requests text = text_of (filter (λ line. not (bytes_eq line (codes "handover"))) (lines_of text))
 
--- THE LAWS, whatever the handovers say
+-- THE LAWS, whatever the handovers say, and whatever world a stream to resume leads to
 abbrev pub DeletingHandoversChangesNothing : Type 0
 DeletingHandoversChangesNothing =
-    (types : List ℕ) (script : Script) (says : List Said)
-    → without_handover_lines (script_lines types script says) ≡ script_lines types (without_handovers script) []
+    (resume : List ℕ → Option World) (types : List ℕ) (script : Script) (says : List Said)
+    → without_handover_lines (script_lines resume types script says) ≡ script_lines resume types (without_handovers script) []
 
 -- what is left of a script's text is a script's text
 abbrev pub HandoversMayBeDeleted : Type 0
@@ -41,5 +42,5 @@ HandoversMayBeDeleted =
 -- both, from text to text
 abbrev pub TranscriptsHideHandovers : Type 0
 TranscriptsHideHandovers =
-    (types text : List ℕ) (script : Script) (says : List Said) → script_of text ≡ Ok script
-    → without_handover_lines (transcript_with types text says) ≡ transcript_with types (without_handover_requests text) []
+    (resume : List ℕ → Option World) (types text : List ℕ) (script : Script) (says : List Said) → script_of text ≡ Ok script
+    → without_handover_lines (transcript_with resume types text says) ≡ transcript_with resume types (without_handover_requests text) []

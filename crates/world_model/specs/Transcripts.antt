@@ -1,5 +1,5 @@
 -- What is printed for a script: a line an event. This project's own.
-use Rattle.std.specs.Prelude.{ℕ, Bool, true, false, if◌then◌else◌, List, [], ◌∷◌, ◌++◌, Option, Some, None, Result, Ok, Err, codes, decimal}
+use Rattle.std.specs.Prelude.{ℕ, Bool, true, false, if◌then◌else◌, List, [], ◌∷◌, ◌++◌, Option, Some, None, option_map, Result, Ok, Err, codes, decimal}
 use Rattle.text_model.specs.Hex.{hex}
 use Rattle.machine_model.specs.Machine.{Item}
 use Rattle.world_model.specs.declared.Said.{Said}
@@ -109,21 +109,30 @@ abbrev pub history_of : List ℕ → World → List Event → List Item
 history_of types w [] = []
 history_of types w (e ∷ es) = (event_with types e w).items ++ history_of types (event_with types e w).world es
 
--- the world of a script's head lines, with no stream to resume
+-- the world of a script's head lines. A stream to resume leads to a world, or to none where it tells no state
 abbrev pub with_domains : List DomainLine → World → World
 with_domains [] w = w
 with_domains (line ∷ lines) w = with_domains lines (add_domain line.domid line.start w)
 
-abbrev pub start_of : Script → World
-start_of script = with_domains script.domains new_world
+abbrev pub resumed_by : (List ℕ → Option World) → Option (List ℕ) → Option World
+resumed_by resume None = Some new_world
+resumed_by resume (Some stream) = resume stream
 
-abbrev pub script_lines : List ℕ → Script → List Said → List ℕ
-script_lines types script says = lines_from types (start_of script) script.events says
+abbrev pub start_of : (List ℕ → Option World) → Script → Option World
+start_of resume script = option_map (with_domains script.domains) (resumed_by resume script.resume)
 
-abbrev pub transcript_of : List ℕ → Result Script LineFault → List Said → List ℕ
-transcript_of types (Err fault) says = []
-transcript_of types (Ok script) says = script_lines types script says
+-- nothing is printed where there is no world
+abbrev pub lines_at : List ℕ → Option World → List Event → List Said → List ℕ
+lines_at types None events says = []
+lines_at types (Some w) events says = lines_from types w events says
+
+abbrev pub script_lines : (List ℕ → Option World) → List ℕ → Script → List Said → List ℕ
+script_lines resume types script says = lines_at types (start_of resume script) script.events says
+
+abbrev pub transcript_of : (List ℕ → Option World) → List ℕ → Result Script LineFault → List Said → List ℕ
+transcript_of resume types (Err fault) says = []
+transcript_of resume types (Ok script) says = script_lines resume types script says
 
 -- the transcript of a script's text, with the message types that are served
-abbrev pub transcript_with : List ℕ → List ℕ → List Said → List ℕ
-transcript_with types text says = transcript_of types (script_of text) says
+abbrev pub transcript_with : (List ℕ → Option World) → List ℕ → List ℕ → List Said → List ℕ
+transcript_with resume types text says = transcript_of resume types (script_of text) says

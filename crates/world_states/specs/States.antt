@@ -1,13 +1,15 @@
 -- The state that a world keeps: all of it but the pages, which stay with the guests when the store is replaced. This
 -- project's own.
-use Rattle.std.specs.Prelude.{ℕ, List, [], map, filter_map}
+use Rattle.std.specs.Prelude.{ℕ, List, [], map, filter_map, Option, Some, None, Result, Ok, Err}
 use Rattle.std.specs.Ordering.{nat_cmp}
 use Rattle.std.specs.FinMap.{find}
 use Rattle.machine_model.specs.Connections.{Connection}
 use Rattle.machine_model.specs.Transactions.{Transaction, count}
 use Rattle.mark_model.specs.Marks.{Mark}
 use Rattle.mark_model.specs.Open.{marks_of}
+use Rattle.kept_model.specs.declared.fault.LoadFault.{LoadFault}
 use Rattle.kept_model.specs.States.{TransactionOf, ConnectionOf, State, begun}
+use Rattle.kept_model.specs.Normal.{state_of_bytes}
 use Rattle.world_model.specs.Worlds.{World, Channel, channel_or_empty, ring_domid, with_fresh_guests}
 
 -- WHAT A WORLD KEEPS
@@ -50,3 +52,11 @@ begun_world s = record {
   guests = with_fresh_guests (ring_domids s) [];
   channels = map (λ e. (e.0, channel_in e.1)) s.conns;
 }
+
+-- and by the bytes of a stream: none where they tell no state
+abbrev pub begun_by : Result State LoadFault → Option World
+begun_by (Ok s) = Some (begun_world s)
+begun_by (Err fault) = None
+
+abbrev pub resumed : List ℕ → Option World
+resumed stream = begun_by (state_of_bytes stream)
