@@ -16,7 +16,7 @@ use Rattle.world_core.specs.Stands.{Kept, StandsFor, AddsDomain}
 use Rattle.world_core.specs.Seats.{IsSeated}
 use Rattle.world_core.proofs.SpecLemmas.{ring_as, free_as}
 use Rattle.world_core.proofs.RingLemmas.{rings_more}
-use Rattle.world_core.proofs.StandLemmas.{inbox, unsent, guest_changed, in_order, rings_differ}
+use Rattle.world_core.proofs.StandLemmas.{inbox, unsent, rest_in, guest_changed, in_order, rings_differ}
 
 module _ (old new : Kept) (d start : ℕ) where
   ring_is : (w : World) → StandsFor old w → (o : Option ℕ) → ring_id d old.daemon.specs ≡ o → ring_of d w.machine.conns ≡ o
@@ -43,9 +43,11 @@ module _ (old new : Kept) (d start : ℕ) where
         let world = λ (k : ℕ). with_start d start (record { machine = with_conn k (fresh (Ring d None 0)) w.machine; globals = w.globals; guests = w.guests; channels = put nat_cmp k empty_channel w.channels }) in
         let there : StandsFor new (world c) = record {
           store = adds.stands w.machine store;
+          globals = stands.globals ∙ sym adds.globals;
           guests = ap (put nat_cmp d (fresh_guest start)) stands.guests ∙ sym seated.guests;
           inboxes = put_map inbox c empty_channel w.channels ∙ ap (put nat_cmp c []) stands.inboxes ∙ sym seated.inboxes;
           unsent = put_map unsent c empty_channel w.channels ∙ ap (put nat_cmp c []) stands.unsent ∙ sym adds.unsent;
+          rests = put_map rest_in c empty_channel w.channels ∙ ap (put nat_cmp c 0) stands.rests ∙ sym adds.rests;
           order = sorted_put nat_cmp nat_cmp_total c empty_channel w.channels stands.order;
           rings = subst (λ rings. (e b : ℕ) → ring_of e (put nat_cmp c (fresh (Ring d None 0)) w.machine.conns) ≡ Some b → find nat_cmp e rings ≡ Some b) (sym seated.rings)
               (rings_more w.machine.conns (in_order old.daemon w.machine store) (rings_differ old.daemon w.machine store) c d 0 ring old.rings stands.rings);

@@ -114,11 +114,13 @@ rings_found d c ((id, Ring domid target evtchn) ∷ es) rings distinct h =
 -- A START
 pub begins : (store : KeptByDaemon) (inboxes : List (ℕ × List ℕ)) (new : Kept) → new.daemon ≡ store → new.inboxes ≡ inboxes → new.guests ≡ with_fresh_guests (ring_domids store.specs) [] → new.rings ≡ with_rings store.specs [] → Begins store inboxes new
 begins store inboxes new same_daemon same_inboxes guests rings = record {
-  stands = λ m globals channels stands of_inboxes of_unsent order. record {
+  stands = λ m channels stands of_inboxes of_unsent of_rests order. record {
     store = subst (λ kept. daemon.StandsFor kept m) (sym same_daemon) stands;
+    globals = ap (λ (kept : KeptByDaemon). kept.globals) (sym same_daemon);
     guests = ap (λ ds. with_fresh_guests ds []) (domids_as store m stands) ∙ sym guests;
     inboxes = of_inboxes ∙ sym same_inboxes;
     unsent = of_unsent ∙ ap (λ (kept : KeptByDaemon). kept.unsent) (sym same_daemon);
+    rests = of_rests ∙ ap (λ (kept : KeptByDaemon). kept.rests) (sym same_daemon);
     order = order;
     rings = λ d c h. ap (find nat_cmp d) rings ∙ rings_found d c store.specs [] stands.table.rings (sym (ring_as store m stands d) ∙ h);
   };

@@ -12,8 +12,10 @@ use Rattle.machine_model.specs.Machine.{Step, Send}
 use Rattle.machine_model.specs.History.{bytes_or_none, sent_to, unsent_after}
 use Rattle.world_model.specs.Worlds.{Channel, channel_or_empty, channel_after, channels_after, unsent_of}
 use Rattle.world_laws.proofs.EntryLemmas.{each_is_itself}
+use Rattle.daemon.proofs.ValueLemmas.{same_ids}
 use Rattle.conn_rows.proofs.IdEntries.{same_there, none_there}
-use Rattle.world_core.specs.Stands.{inboxes_of}
+use Rattle.store_parts.specs.States.{or_zero, rest_of}
+use Rattle.world_core.specs.Stands.{inboxes_of, rests_of}
 
 abbrev pub ids : {X : Type 0} → List (ℕ × X) → List ℕ
 ids es = map (λ e. e.0) es
@@ -70,6 +72,22 @@ unsent_by_conns sends channels (k ∷ ks) =
 
 pub unsent_stepped : (stepped : Step) (channels : List (ℕ × Channel)) → unsent_of (channels_after stepped channels) ≡ unsent_after stepped (unsent_of channels)
 unsent_stepped stepped channels = unsent_by_conns stepped.1 channels stepped.0.conns
+
+-- how many of these bytes end a message that was sent in part: as many as before
+rest_of_found : (sends : List Send) (c : ℕ) (o : Option Channel) → (channel_after sends c (channel_or_empty o)).rest ≡ or_zero (option_map (λ (ch : Channel). ch.rest) o)
+rest_of_found sends c None = refl
+rest_of_found sends c (Some channel) = refl
+
+rests_by_conns : {A : Type 0} (sends : List Send) (channels : List (ℕ × Channel)) (ks : List (ℕ × A)) → rests_of (map (λ e. (e.0, channel_after sends e.0 (channel_or_empty (find nat_cmp e.0 channels)))) ks) ≡ map (λ e. (e.0, rest_of e.0 (rests_of channels))) ks
+rests_by_conns sends channels [] = refl
+rests_by_conns sends channels (k ∷ ks) =
+    ap₂ (λ (n : ℕ) l. (k.0, n) ∷ l)
+    (rest_of_found sends k.0 (find nat_cmp k.0 channels) ∙ ap or_zero (sym (found_map nat_cmp (λ (ch : Channel). ch.rest) k.0 channels)))
+    (rests_by_conns sends channels ks)
+
+pub rests_stepped : {A : Type 0} (stepped : Step) (channels : List (ℕ × Channel)) (specs : List (ℕ × A)) → ids stepped.0.conns ≡ ids specs → rests_of (channels_after stepped channels) ≡ map (λ e. (e.0, rest_of e.0 (rests_of channels))) specs
+rests_stepped stepped channels specs same =
+    rests_by_conns stepped.1 channels stepped.0.conns ∙ same_ids (λ k. rest_of k (rests_of channels)) stepped.0.conns specs same
 
 -- inboxes stay, where the connections do
 abbrev inbox_or_empty : Option Channel → List ℕ

@@ -1,15 +1,16 @@
 -- What the two steps of an intake take.
-use Rattle.std.proofs.Common.{◌≡◌, ℕ, ◌+◌, ◌-◌, ◌%◌, ◌≤◌, Bool, true, false, cond, List, ◌++◌, length, take, drop, min, Ok, Err, refl, sym, ap, ap₂, ◌∙◌, arith, append_assoc, length-append, length-take, length-take-le, length-drop, replicate}
-use Rattle.std.proofs.lemmas.Bool.{cond-false, ltb-false}
+use Rattle.std.proofs.Common.{◌≡◌, ℕ, zero, suc, ◌+◌, ◌-◌, ◌%◌, ◌<◌, ◌≤◌, Bool, true, false, cond, nat_lt, List, ◌++◌, length, take, drop, min, Ok, Err, inl, inr, refl, sym, ap, ap₂, ◌∙◌, arith, append_assoc, length-append, length-take, length-take-le, length-drop, replicate}
+use Rattle.std.proofs.lemmas.Bool.{cases_lt, cond-true, cond-false, lt-ltb, le-ltb, ltb-false}
 use Rattle.std.proofs.Math.Seq.{take-add}
 use Rattle.std.proofs.lemmas.List.{length-replicate, take_at, take-take, drop-take}
 use Rattle.ring_index.specs.declared.index.BadIndex.{BadIndex}
 use Rattle.ring_index.specs.Answers.{unless_bad}
 use Rattle.world_model.specs.Rings.{Ring, used, is_bad, filled, held, cells_from}
-use Rattle.world_model.specs.Fronts.{intake}
+use Rattle.xs_model.specs.Messages.{word_at}
+use Rattle.world_model.specs.Fronts.{Whole, TooLong, Part, front, front_with, is_part, intake}
 use Rattle.msg_reassembly.specs.Inboxes.{room}
-use Rattle.msg_reassembly.specs.Cuts.{one_step}
-use Rattle.msg_reassembly.proofs.IntakeLemmas.{intake_is_two_steps}
+use Rattle.msg_reassembly.specs.Cuts.{IsMost, one_step}
+use Rattle.msg_reassembly.proofs.IntakeLemmas.{intake_is_most, intake_is_two_steps}
 
 -- AN ANSWER, by whether the indices are bad
 pub unless_good : (ring : Ring) (n : ℕ) → is_bad ring ≡ false → unless_bad ring n ≡ Ok n
@@ -84,3 +85,38 @@ module _ (old new : Ring) (inbox mid : List ℕ) (max first second : ℕ) (first
   both_fed after h =
       h ∙ ap₂ ◌++◌ fed_first (ap (take second) content) ∙ append_assoc inbox (take first (held old)) (take second (drop first (held old)))
       ∙ ap (λ xs. inbox ++ xs) (sym (take-add first second (held old)))
+
+-- HOW LONG an inbox gets: one that takes bytes is less than a message, and no more than a message then
+part_behind_header : (len : ℕ) (bytes : List ℕ) → is_part (front_with len bytes) ≡ true → length bytes < 4112
+part_behind_header len bytes part =
+    elim (cases_lt 4096 len) [
+      | inl h ↦ cc (ap is_part (cond-true (nat_lt 4096 len) (TooLong len) (cond (nat_lt (length bytes) (16 + len)) Part (Whole (16 + len))) (lt-ltb 4096 len h)), part)
+      | inr h ↦ elim (cases_lt (length bytes) (16 + len)) [
+        | inl k ↦ omega arith
+        | inr k ↦ cc (
+          ap is_part (cond-false (nat_lt 4096 len) (TooLong len) (cond (nat_lt (length bytes) (16 + len)) Part (Whole (16 + len))) (le-ltb 4096 len h)
+              ∙ cond-false (nat_lt (length bytes) (16 + len)) Part (Whole (16 + len)) (le-ltb (length bytes) (16 + len) k)),
+          part,
+        )
+      ]
+    ]
+
+part_is_short : (bytes : List ℕ) → is_part (front bytes) ≡ true → length bytes < 4112
+part_is_short bytes part =
+    elim (cases_lt (length bytes) 16) [
+      | inl h ↦ omega arith
+      | inr h ↦ part_behind_header (word_at 12 bytes) bytes
+          (ap is_part (sym (cond-false (nat_lt (length bytes) 16) Part (front_with (word_at 12 bytes) bytes) (le-ltb (length bytes) 16 h))) ∙ part)
+    ]
+
+most_fits : (inbox bytes : List ℕ) (n limit : ℕ) → IsMost inbox bytes n → 4112 ≤ limit → length inbox ≤ limit → length inbox + n ≤ limit
+most_fits inbox bytes zero limit most large fits = omega arith
+most_fits inbox bytes (suc m) limit most large fits =
+    let part = part_is_short (inbox ++ take m bytes) (most.before m (omega arith)) in
+    omega (arith, part, length-append inbox (take m bytes), length-take-le m bytes (omega (arith, most.there)))
+
+pub stays_short : (ring : Ring) (inbox after : List ℕ) (max n limit : ℕ) → Ok n ≡ unless_bad ring (intake inbox (take max (held ring))) → after ≡ inbox ++ take n (held ring) → 4112 ≤ limit → length inbox ≤ limit → length after ≤ limit
+stays_short ring inbox after max n limit told fed large fits =
+    let is = (told_of ring n (intake inbox (take max (held ring))) told).1 in
+    let most = most_fits inbox (take max (held ring)) (intake inbox (take max (held ring))) limit (intake_is_most inbox (take max (held ring))) large fits in
+    omega (arith, ap length fed, length-append inbox (take n (held ring)), length-take n (held ring), is, most)

@@ -10,3 +10,7 @@ pub mod InLemmas
 pub mod GuestLemmas
 pub mod BeginLemmas
 pub mod AddLemmas
+pub mod ShortLemmas
+pub mod KeptLemmas
+pub mod HandLemmas
+pub mod BegunLemmas

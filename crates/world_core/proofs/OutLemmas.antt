@@ -41,6 +41,7 @@ pub sends : (old new : Kept) (d c most n : ℕ) (into into_new sent : List ℕ) 
 sends old new d c most n into into_new sent pulls long is same_inboxes guests rings w at stands h conn some =
     let parts = parts_of old w d at stands h in
     let bytes : pulls.bytes ≡ at.channel.unsent = from_Some (sym pulls.there ∙ ap (λ k. find nat_cmp k old.daemon.unsent) (sym conn) ∙ parts.unsent) in
+    let rest : pulls.rest ≡ at.channel.rest = from_Some (sym pulls.was ∙ ap (λ k. find nat_cmp k old.daemon.rests) (sym conn) ∙ parts.rest) in
     let count : n ≡ min most (length at.channel.unsent) = pulls.count ∙ ap (λ m. min m (length pulls.bytes)) long ∙ ap (λ (u : List ℕ). min most (length u)) bytes in
     let short : n ≤ length pulls.bytes = rw (pulls.count) omega arith in
     let front : sent ≡ take n at.channel.unsent = is ∙ ap (take n) pulls.taken ∙ front_only n pulls.bytes (drop n into) short ∙ ap (take n) bytes in
@@ -49,7 +50,10 @@ sends old new d c most n into into_new sent pulls long is same_inboxes guests ri
     let on_guest : StandsFor mid (with_guest d page w) = guest_changed old mid w d page stands refl refl (guests at.guest parts.guest) refl in
     let both : StandsFor new (with_channel at.conn (record { inbox = at.channel.inbox; unsent = drop n at.channel.unsent; rest = rest_after at.channel.rest n at.channel.unsent }) (with_guest d page w)) =
     unsent_changed mid new (with_guest d page w) at.conn at.channel (drop n at.channel.unsent) (rest_after at.channel.rest n at.channel.unsent) on_guest parts.channel pulls.stands
-    (pulls.unsent ∙ ap (λ k. put nat_cmp k (drop n pulls.bytes) old.daemon.unsent) (sym conn) ∙ ap (λ u. put nat_cmp at.conn (drop n u) old.daemon.unsent) bytes) same_inboxes refl rings
+    (pulls.unsent ∙ ap (λ k. put nat_cmp k (drop n pulls.bytes) old.daemon.unsent) (sym conn) ∙ ap (λ u. put nat_cmp at.conn (drop n u) old.daemon.unsent) bytes)
+    (pulls.rests ∙ ap (λ k. put nat_cmp k (rest_after pulls.rest n pulls.bytes) old.daemon.rests) (sym conn)
+    ∙ ap (λ r. put nat_cmp at.conn (rest_after r n pulls.bytes) old.daemon.rests) rest
+    ∙ ap (λ u. put nat_cmp at.conn (rest_after at.channel.rest n u) old.daemon.rests) bytes) pulls.globals same_inboxes refl rings
     in
     subst (λ k. Follows new (said.Sent n) (sent_some d k w at)) count
     (record {

@@ -8,7 +8,7 @@ use Rattle.machine_model.specs.Connections.{ring_of}
 use Rattle.world_model.specs.Worlds.{World, Guest, Channel, Served, served, served_at, served_by, served_with}
 use Rattle.world_core.specs.Stands.{Kept, StandsFor}
 use Rattle.world_core.specs.Parts.{Serves}
-use Rattle.world_core.proofs.StandLemmas.{inbox, unsent}
+use Rattle.world_core.proofs.StandLemmas.{inbox, unsent, rest_in}
 
 -- the parts of what is served, in the world and in what is kept
 pub record Parts (old : Kept) (w : World) (d : ℕ) (at : Served) : Type 0 where
@@ -17,6 +17,7 @@ pub record Parts (old : Kept) (w : World) (d : ℕ) (at : Served) : Type 0 where
   pub guest : find nat_cmp d old.guests ≡ Some at.guest
   pub inbox : find nat_cmp at.conn old.inboxes ≡ Some at.channel.inbox
   pub unsent : find nat_cmp at.conn old.daemon.unsent ≡ Some at.channel.unsent
+  pub rest : find nat_cmp at.conn old.daemon.rests ≡ Some at.channel.rest
 
 record Looked (w : World) (o : Option ℕ) (d : ℕ) (at : Served) : Type 0 where
   ring : o ≡ Some at.conn
@@ -51,6 +52,9 @@ inbox_of old w c stands = ap (find nat_cmp c) (sym stands.inboxes) ∙ found_map
 unsent_of : (old : Kept) (w : World) (c : ℕ) → StandsFor old w → find nat_cmp c old.daemon.unsent ≡ option_map unsent (find nat_cmp c w.channels)
 unsent_of old w c stands = ap (find nat_cmp c) (sym stands.unsent) ∙ found_map nat_cmp unsent c w.channels
 
+rest_of : (old : Kept) (w : World) (c : ℕ) → StandsFor old w → find nat_cmp c old.daemon.rests ≡ option_map rest_in (find nat_cmp c w.channels)
+rest_of old w c stands = ap (find nat_cmp c) (sym stands.rests) ∙ found_map nat_cmp rest_in c w.channels
+
 pub parts_of : (old : Kept) (w : World) (d : ℕ) (at : Served) → StandsFor old w → served w d ≡ Some at → Parts old w d at
 parts_of old w d at stands h =
     let looked = of_ring w d (ring_of d w.machine.conns) at h in
@@ -60,6 +64,7 @@ parts_of old w d at stands h =
       guest = ap (find nat_cmp d) (sym stands.guests) ∙ looked.guest;
       inbox = inbox_of old w at.conn stands ∙ ap (option_map inbox) looked.channel;
       unsent = unsent_of old w at.conn stands ∙ ap (option_map unsent) looked.channel;
+      rest = rest_of old w at.conn stands ∙ ap (option_map rest_in) looked.channel;
     }
 
 -- WHO IS SERVED, by the look-ups

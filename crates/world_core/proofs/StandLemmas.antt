@@ -14,7 +14,7 @@ use Rattle.machine_model.specs.History.{unsent_after}
 use Rattle.machine_model.specs.Limits.{HasIds}
 use Rattle.machine_model.specs.Machine.{Machine, Asked, Lost, Step, Send, step_with, step}
 use Rattle.machine_model.proofs.Lists.{all_weaker}
-use Rattle.conn_table.specs.Tables.{ring_id}
+use Rattle.conn_table.specs.Tables.{Specs, ring_id}
 use Rattle.world_model.specs.Worlds.{World, Guest, Channel, Served, fresh_guest, ring_domid, with_guest, with_channel, without_channel, channel_or_empty, channel_after, channels_after, domid_if_new, with_fresh_guests, without_front, world_after, unsent_of}
 use Rattle.world_laws.proofs.ConnLemmas.{ends, OneRingEach, ring_is}
 use Rattle.world_laws.proofs.EntryLemmas.{each_is_found}
@@ -22,12 +22,13 @@ use Rattle.daemon.specs.declared.answer.Door.{Door}
 use Rattle.daemon.specs.declared.answer.Door.TheVariants.{Same, Opened, Closed}
 use Rattle.store_parts.specs.Kept.{Kept as KeptByDaemon}
 use Rattle.daemon.specs.Keeps as daemon
+use Rattle.daemon.specs.Acts.{rests_by}
 use Rattle.daemon.specs.Peers.{IsSoundTable}
 use Rattle.daemon.specs.Submits.{Takes, Drops}
 use Rattle.conn_rows.proofs.IdEntries.{put_map, where_map, put_again, keys_map, same_there, same_rising}
-use Rattle.world_core.specs.Stands.{Kept, StandsFor, inboxes_of}
+use Rattle.world_core.specs.Stands.{Kept, StandsFor, inboxes_of, rests_of}
 use Rattle.world_core.specs.Seats.{Follows}
-use Rattle.world_core.proofs.ChannelLemmas.{ids, unsent_stepped, inboxes_stepped, inboxes_made, inboxes_lost}
+use Rattle.world_core.proofs.ChannelLemmas.{ids, unsent_stepped, rests_stepped, inboxes_stepped, inboxes_made, inboxes_lost}
 use Rattle.world_core.proofs.SpecLemmas.{specs_are, ring_as, ids_as, rising_as}
 use Rattle.world_core.proofs.RingLemmas.{HasRings, one_ring, rings_left, new_ends, rings_more, ring_stays}
 
@@ -37,17 +38,22 @@ inbox channel = channel.inbox
 abbrev pub unsent : Channel → List ℕ
 unsent channel = channel.unsent
 
+abbrev pub rest_in : Channel → ℕ
+rest_in channel = channel.rest
+
 -- the connections stay, and so do the rings
-kept_rings : (old new : Kept) (w : World) → StandsFor old w → new.rings ≡ old.rings → HasRings new.rings w.machine.conns
+pub kept_rings : (old new : Kept) (w : World) → StandsFor old w → new.rings ≡ old.rings → HasRings new.rings w.machine.conns
 kept_rings old new w stands same = subst (λ rings. HasRings rings w.machine.conns) (sym same) stands.rings
 
 -- A GUEST
 pub guest_changed : (old new : Kept) (w : World) (d : ℕ) (g : Guest) → StandsFor old w → new.daemon ≡ old.daemon → new.inboxes ≡ old.inboxes → new.guests ≡ put nat_cmp d g old.guests → new.rings ≡ old.rings → StandsFor new (with_guest d g w)
 guest_changed old new w d g stands same_daemon same_inboxes guests same_rings = record {
   store = subst (λ k. daemon.StandsFor k w.machine) (sym same_daemon) stands.store;
+  globals = stands.globals ∙ ap (λ (k : KeptByDaemon). k.globals) (sym same_daemon);
   guests = ap (put nat_cmp d g) stands.guests ∙ sym guests;
   inboxes = stands.inboxes ∙ sym same_inboxes;
   unsent = stands.unsent ∙ ap (λ (k : KeptByDaemon). k.unsent) (sym same_daemon);
+  rests = stands.rests ∙ ap (λ (k : KeptByDaemon). k.rests) (sym same_daemon);
   order = stands.order;
   rings = kept_rings old new w stands same_rings;
 }
@@ -58,6 +64,11 @@ unsent_stays w c channel i order there =
     put_map unsent c (record { inbox = i; unsent = channel.unsent; rest = channel.rest }) w.channels
     ∙ put_again c channel.unsent (unsent_of w.channels) (sorted_map nat_cmp unsent w.channels ∙ order) (found_map nat_cmp unsent c w.channels ∙ ap (option_map unsent) there)
 
+rests_stay : (w : World) (c : ℕ) (channel : Channel) (i : List ℕ) → is_sorted nat_cmp w.channels ≡ true → find nat_cmp c w.channels ≡ Some channel → rests_of (put nat_cmp c (record { inbox = i; unsent = channel.unsent; rest = channel.rest }) w.channels) ≡ rests_of w.channels
+rests_stay w c channel i order there =
+    put_map rest_in c (record { inbox = i; unsent = channel.unsent; rest = channel.rest }) w.channels
+    ∙ put_again c channel.rest (rests_of w.channels) (sorted_map nat_cmp rest_in w.channels ∙ order) (found_map nat_cmp rest_in c w.channels ∙ ap (option_map rest_in) there)
+
 inboxes_stay : (w : World) (c : ℕ) (channel : Channel) (u : List ℕ) (rest : ℕ) → is_sorted nat_cmp w.channels ≡ true → find nat_cmp c w.channels ≡ Some channel → inboxes_of (put nat_cmp c (record { inbox = channel.inbox; unsent = u; rest = rest }) w.channels) ≡ inboxes_of w.channels
 inboxes_stay w c channel u rest order there =
     put_map inbox c (record { inbox = channel.inbox; unsent = u; rest = rest }) w.channels
@@ -66,19 +77,23 @@ inboxes_stay w c channel u rest order there =
 pub inbox_changed : (old new : Kept) (w : World) (c : ℕ) (channel : Channel) (i : List ℕ) → StandsFor old w → find nat_cmp c w.channels ≡ Some channel → new.daemon ≡ old.daemon → new.inboxes ≡ put nat_cmp c i old.inboxes → new.guests ≡ old.guests → new.rings ≡ old.rings → StandsFor new (with_channel c (record { inbox = i; unsent = channel.unsent; rest = channel.rest }) w)
 inbox_changed old new w c channel i stands there same_daemon inboxes same_guests same_rings = record {
   store = subst (λ k. daemon.StandsFor k w.machine) (sym same_daemon) stands.store;
+  globals = stands.globals ∙ ap (λ (k : KeptByDaemon). k.globals) (sym same_daemon);
   guests = stands.guests ∙ sym same_guests;
   inboxes = put_map inbox c (record { inbox = i; unsent = channel.unsent; rest = channel.rest }) w.channels ∙ ap (put nat_cmp c i) stands.inboxes ∙ sym inboxes;
   unsent = unsent_stays w c channel i stands.order there ∙ stands.unsent ∙ ap (λ (k : KeptByDaemon). k.unsent) (sym same_daemon);
+  rests = rests_stay w c channel i stands.order there ∙ stands.rests ∙ ap (λ (k : KeptByDaemon). k.rests) (sym same_daemon);
   order = sorted_put nat_cmp nat_cmp_total c (record { inbox = i; unsent = channel.unsent; rest = channel.rest }) w.channels stands.order;
   rings = kept_rings old new w stands same_rings;
 }
 
-pub unsent_changed : (old new : Kept) (w : World) (c : ℕ) (channel : Channel) (u : List ℕ) (rest : ℕ) → StandsFor old w → find nat_cmp c w.channels ≡ Some channel → ((m : Machine) → daemon.StandsFor old.daemon m → daemon.StandsFor new.daemon m) → new.daemon.unsent ≡ put nat_cmp c u old.daemon.unsent → new.inboxes ≡ old.inboxes → new.guests ≡ old.guests → new.rings ≡ old.rings → StandsFor new (with_channel c (record { inbox = channel.inbox; unsent = u; rest = rest }) w)
-unsent_changed old new w c channel u rest stands there store bytes same_inboxes same_guests same_rings = record {
+pub unsent_changed : (old new : Kept) (w : World) (c : ℕ) (channel : Channel) (u : List ℕ) (rest : ℕ) → StandsFor old w → find nat_cmp c w.channels ≡ Some channel → ((m : Machine) → daemon.StandsFor old.daemon m → daemon.StandsFor new.daemon m) → new.daemon.unsent ≡ put nat_cmp c u old.daemon.unsent → new.daemon.rests ≡ put nat_cmp c rest old.daemon.rests → new.daemon.globals ≡ old.daemon.globals → new.inboxes ≡ old.inboxes → new.guests ≡ old.guests → new.rings ≡ old.rings → StandsFor new (with_channel c (record { inbox = channel.inbox; unsent = u; rest = rest }) w)
+unsent_changed old new w c channel u rest stands there store bytes rests same_globals same_inboxes same_guests same_rings = record {
   store = store w.machine stands.store;
+  globals = stands.globals ∙ sym same_globals;
   guests = stands.guests ∙ sym same_guests;
   inboxes = inboxes_stay w c channel u rest stands.order there ∙ stands.inboxes ∙ sym same_inboxes;
   unsent = put_map unsent c (record { inbox = channel.inbox; unsent = u; rest = rest }) w.channels ∙ ap (put nat_cmp c u) stands.unsent ∙ sym bytes;
+  rests = put_map rest_in c (record { inbox = channel.inbox; unsent = u; rest = rest }) w.channels ∙ ap (put nat_cmp c rest) stands.rests ∙ sym rests;
   order = sorted_put nat_cmp nat_cmp_total c (record { inbox = channel.inbox; unsent = u; rest = rest }) w.channels stands.order;
   rings = kept_rings old new w stands same_rings;
 }
@@ -105,9 +120,11 @@ module _ (kept : KeptByDaemon) (m : Machine) (store : daemon.StandsFor kept m) w
 pub lost : (old new : Kept) (w : World) (c d : ℕ) (g : Guest) → StandsFor old w → Drops old.daemon c new.daemon → new.inboxes ≡ where_key nat_cmp (λ k. not (c == k)) old.inboxes → new.guests ≡ put nat_cmp d g old.guests → new.rings ≡ old.rings → StandsFor new (record { machine = (step_with [] w.machine (Lost c)).0; globals = w.globals; guests = put nat_cmp d g w.guests; channels = without_channel c w.channels })
 lost old new w c d g stands drops inboxes guests same_rings = record {
   store = drops.stands w.machine stands.store;
+  globals = stands.globals ∙ sym drops.globals;
   guests = ap (put nat_cmp d g) stands.guests ∙ sym guests;
   inboxes = where_map inbox (λ k. not (c == k)) w.channels ∙ ap (where_key nat_cmp (λ k. not (c == k))) stands.inboxes ∙ sym inboxes;
   unsent = where_map unsent (λ k. not (c == k)) w.channels ∙ ap (where_key nat_cmp (λ k. not (c == k))) stands.unsent ∙ sym drops.unsent;
+  rests = where_map rest_in (λ k. not (c == k)) w.channels ∙ ap (where_key nat_cmp (λ k. not (c == k))) stands.rests ∙ sym drops.rests;
   order = sorted_where nat_cmp (λ k. not (c == k)) w.channels stands.order;
   rings = rings_but_one old.daemon w.machine stands.store c new.rings (kept_rings old new w stands same_rings);
 }
@@ -194,6 +211,9 @@ module _ (old new : Kept) (w : World) (at : Served) (n : ℕ) (message : List �
   unsent_left : unsent_of left ≡ old.daemon.unsent
   unsent_left = unsent_stays w at.conn at.channel (drop n at.channel.inbox) stands.order there ∙ stands.unsent
 
+  rests_left : rests_of left ≡ old.daemon.rests
+  rests_left = rests_stay w at.conn at.channel (drop n at.channel.inbox) stands.order there ∙ stands.rests
+
   inboxes_left : inboxes_of left ≡ skipped
   inboxes_left =
       put_map inbox at.conn (record { inbox = drop n at.channel.inbox; unsent = at.channel.unsent; rest = at.channel.rest }) w.channels
@@ -208,6 +228,10 @@ module _ (old new : Kept) (w : World) (at : Served) (n : ℕ) (message : List �
 
   pub unsent_then : unsent_of (channels_after stepped left) ≡ unsent_after stepped old.daemon.unsent
   unsent_then = unsent_stepped stepped left ∙ ap (unsent_after stepped) unsent_left
+
+  rests_then : (specs : Specs) → ids after ≡ ids specs → rests_of (channels_after stepped left) ≡ rests_by specs old.daemon.rests
+  rests_then specs same =
+      rests_stepped stepped left specs same ∙ ap (rests_by specs) rests_left
 
   -- what the code keeps of the world after the step
   abbrev pub Follow : Door → Type 0
@@ -274,9 +298,11 @@ module _ (old new : Kept) (w : World) (at : Served) (n : ℕ) (message : List �
       let kept = keeps door takes sound follow in
       record {
         store = takes.stands;
+        globals = stands.globals ∙ sym takes.globals;
         guests = kept.guests;
         inboxes = kept.inboxes;
         unsent = unsent_then ∙ sym takes.unsent;
+        rests = rests_then new.daemon.specs (ids_of_table new.daemon stepped.0 takes.stands) ∙ sym takes.rests;
         order = same_rising (channels_after stepped left) after (ids_stepped stepped.1 left after) ∙ in_order new.daemon stepped.0 takes.stands;
         rings = kept.rings;
       }

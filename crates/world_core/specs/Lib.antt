@@ -2,3 +2,4 @@ pub mod Guests
 pub mod Stands
 pub mod Parts
 pub mod Seats
+pub mod Handovers

@@ -25,13 +25,19 @@ pub record Kept : Type 0 where
 abbrev pub inboxes_of : List (ℕ × Channel) → List (ℕ × List ℕ)
 inboxes_of channels = map (λ e. (e.0, e.1.inbox)) channels
 
--- It stands for a world whose store is one that the daemon stands for, and whose guests and channels it has. Contracts do
--- not see yet how many of the unsent bytes are the rest of a message, and there are no numbers of the whole store.
+-- and how many of the bytes that are unsent to it end a message that was sent in part
+abbrev pub rests_of : List (ℕ × Channel) → List (ℕ × ℕ)
+rests_of channels = map (λ e. (e.0, e.1.rest)) channels
+
+-- It stands for a world whose store is one that the daemon stands for, and whose numbers of the whole store, guests and
+-- channels it has.
 pub record StandsFor (kept : Kept) (w : World) : Type 0 where
   pub store : daemon.StandsFor kept.daemon w.machine
+  pub globals : w.globals ≡ kept.daemon.globals
   pub guests : w.guests ≡ kept.guests
   pub inboxes : inboxes_of w.channels ≡ kept.inboxes
   pub unsent : unsent_of w.channels ≡ kept.daemon.unsent
+  pub rests : rests_of w.channels ≡ kept.daemon.rests
   pub order : is_sorted nat_cmp w.channels ≡ true
   -- a domain's ring connection is the one that it had last
   pub rings : (d c : ℕ) → ring_of d w.machine.conns ≡ Some c → find nat_cmp d kept.rings ≡ Some c
@@ -46,24 +52,25 @@ begun m globals channels = record {
 }
 
 pub record Begins (store : KeptByDaemon) (inboxes : List (ℕ × List ℕ)) (new : Kept) : Type 0 where
-  pub stands : (m : Machine) (globals : Globals) (channels : List (ℕ × Channel)) → daemon.StandsFor store m
-      → inboxes_of channels ≡ inboxes → unsent_of channels ≡ store.unsent → is_sorted nat_cmp channels ≡ true → StandsFor new (begun m globals channels)
+  pub stands : (m : Machine) (channels : List (ℕ × Channel)) → daemon.StandsFor store m
+      → inboxes_of channels ≡ inboxes → unsent_of channels ≡ store.unsent → rests_of channels ≡ store.rests → is_sorted nat_cmp channels ≡ true
+      → StandsFor new (begun m store.globals channels)
 
 -- A DOMAIN THAT IS THERE FROM THE START
 pub record AddsDomain (old : Kept) (d start : ℕ) (new : Kept) : Type 0 where
   pub stands : (w : World) → StandsFor old w → StandsFor new (add_domain d start w)
 
--- AN EVENT that may come: it moves one byte or more, and is no handover, which is not built
-abbrev pub IsBuilt : Event → Type 0
-IsBuilt (Send d bytes) = ⊤
-IsBuilt (Put d max) = 1 ≤ max
-IsBuilt (Intake d max) = 1 ≤ max
-IsBuilt (Do d) = ⊤
-IsBuilt (Out d max) = 1 ≤ max
-IsBuilt (Take d max) = 1 ≤ max
-IsBuilt (Poke d which v) = ⊤
-IsBuilt (ShowPage d) = ⊤
-IsBuilt Handover = ⊥
+-- AN EVENT that may come: where it has a greatest number of bytes to move, that is one or more
+abbrev pub Moves : Event → Type 0
+Moves (Send d bytes) = ⊤
+Moves (Put d max) = 1 ≤ max
+Moves (Intake d max) = 1 ≤ max
+Moves (Do d) = ⊤
+Moves (Out d max) = 1 ≤ max
+Moves (Take d max) = 1 ≤ max
+Moves (Poke d which v) = ⊤
+Moves (ShowPage d) = ⊤
+Moves Handover = ⊤
 
 -- whether an event takes memory
 abbrev pub TakesMemory : Event → Type 0
@@ -93,6 +100,10 @@ pub record FoundNone (old : Kept) (event : Event) (new : Kept) (said : Said) : T
 abbrev pub Steps : Kept → Event → Kept → Said → Type 0
 Steps old event new said =
     FoundNone old event new said ⊎ ((w : World) → StandsFor old w → Follows new said (event_with all_types event w))
+
+-- A HANDOVER, whatever comes of it: each world that was stood for is stood for
+abbrev pub GoesOn : Kept → Kept → Type 0
+GoesOn old new = (w : World) → StandsFor old w → StandsFor new w
 
 -- the same of what the definition does once it is known who is served
 abbrev pub Acts : Kept → ℕ → ℕ → (World → Served → Told) → Kept → Said → Type 0

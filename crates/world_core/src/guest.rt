@@ -1,6 +1,6 @@
 //! A domain's page, with what its guest has still to put.
 
-ghost use Rattle.std.specs.Prelude.{◌≡◌, ◌+◌, ◌≤◌, ◌++◌, length, take, drop, min, IfOk, OnOk, OnErr, false};
+ghost use Rattle.std.specs.Prelude.{◌≡◌, ◌+◌, ◌≤◌, ◌++◌, ℕ, length, take, drop, min, IfOk, OnOk, OnErr, false};
 ghost use Rattle.world_model.specs.Fronts.{intake};
 ghost use Rattle.world_model.specs.Rings.{free, is_bad, filled, held, put_all, take_some, with_request, with_reply, with_error, poked};
 ghost use Rattle.world_model.specs.Worlds.{fresh_guest, page_words};
@@ -127,6 +127,8 @@ impl Guest {
         ensures count { result ≡ unless_bad self.old.page.request (intake inbox.old (take max (held self.old.page.request))) }
         ensures inbox { IfOk result (λ n. inbox.new ≡ inbox.old ++ take n (held self.old.page.request)) }
         ensures after { IfOk result (λ n. self.new ≡ with_page_of (with_request (take_some n self.old.page.request)) self.old) }
+        // An inbox that takes bytes is no longer than a message then.
+        ensures short { (limit : ℕ) → 4112 ≤ limit → length inbox.old ≤ limit → length inbox.new ≤ limit }
         ensures err { OnErr result ((self.new ≡ self.old) × (inbox.new ≡ inbox.old)) }
     {
         let head = self.take_step(inbox, max as usize)?;

@@ -1,6 +1,7 @@
 //! What connections have in a world: an inbox by its id, and a page by its domain.
 
-ghost use Rattle.std.specs.Prelude.{◌≡◌, ◌≤◌, ℕ, List, [], drop, Some, None, IfSome, IfOk, OnOk, OnErr};
+ghost use Rattle.std.specs.Prelude.{◌≡◌, ◌≤◌, ℕ, List, [], drop, length, Some, None, IfSome, IfOk, OnOk, OnErr};
+ghost use Rattle.std.specs.List.{AllByRecursion};
 ghost use Rattle.std.specs.Ordering.{nat_cmp};
 ghost use Rattle.std.specs.FinMap.{find, put};
 ghost use Rattle.machine_model.specs.Connections.{least_free};
@@ -95,6 +96,8 @@ impl Seats {
     pub fn follow(&mut self, alloc: Global, daemon: &Daemon, door: Door)
         requires { HasRoom self.old }
         ensures follows { Follows daemon.now door (tables_of self.old) (tables_of self.new) }
+        // A new inbox is empty.
+        ensures short { (limit : ℕ) → AllByRecursion (λ e. length e.1 ≤ limit) self.old.ins.entries → AllByRecursion (λ e. length e.1 ≤ limit) self.new.ins.entries }
         ensures spare { IfSome self.new.spare (λ bytes. bytes ≡ []) }
         ensures sound { IsSoundTable daemon.now.specs }
     {

@@ -1,10 +1,15 @@
 //! The world, and its events.
 
 ghost use Rattle.std.specs.Prelude.{◌≡◌, ◌==◌, ◌≤◌, not, List, ℕ, map, take, drop, length, Some, IfOk, OnOk, OnErr};
+ghost use Rattle.std.specs.Bool.{OnTrue};
+ghost use Rattle.std.specs.List.{AllByRecursion};
 ghost use Rattle.std.specs.Ordering.{nat_cmp};
 ghost use Rattle.std.specs.FinMap.{find, put};
 ghost use Rattle.std.specs.FinMap.Entries.{where_key};
 ghost use Rattle.xs_model.specs.Requests.{all_types};
+ghost use Rattle.store_parts.specs.States.{state_of};
+ghost use Rattle.world_states.specs.States.{begun_world};
+ghost use Rattle.world_model.specs.Transcripts.{is_handover};
 ghost use Rattle.world_model.specs.Rings.{put_all, with_reply, with_error};
 ghost use Rattle.world_model.specs.Fronts.{front};
 ghost use Rattle.world_model.specs.Worlds.{Guest as model_guest, Send as SendEvent, Put as PutEvent, Intake as IntakeEvent, Do as DoEvent, Out as OutEvent, Take as TakeEvent, Poke as PokeEvent, ShowPage, intake_ring, do_message, dropped};
@@ -13,13 +18,15 @@ ghost use Rattle.msg_reassembly.specs.Inboxes.{front_view};
 ghost use Rattle.guest_script.specs.Views.{event_view};
 ghost use Rattle.daemon.specs.Submits.{Drops, Pulled};
 ghost use Rattle.world_core.specs.Guests.{with_page_of};
-ghost use Rattle.world_core.specs.Stands.{Acts, ActsOrNone, AddsDomain, Begins, IsBuilt, Steps};
+ghost use Rattle.world_core.specs.Handovers.{HandsOver, refused_by};
+ghost use Rattle.world_core.specs.Stands.{Acts, ActsOrNone, AddsDomain, Begins, Moves, StandsFor, Steps};
 ghost use Rattle.world_core.specs.Parts.{HasRoom, IsInFront, IsServed, SendsSome};
 
 use crate::guest::{Guest, RING_SIZE};
 use crate::seats::{Seats, connect};
 use daemon::{Daemon, Pull, Submit};
 use guest_script::Event;
+use handover::{Refusal, successor};
 use msg_reassembly::{Front, Ins};
 use ring_index::{BadIndex, Index};
 use std::alloc::Global;
@@ -52,7 +59,8 @@ pub struct World {
 }
 
 impl Model for World {
-    ghost use Rattle.std.specs.Prelude.{◌≡◌, ◌≤◌, take, [], IfSome};
+    ghost use Rattle.std.specs.Prelude.{◌≡◌, ◌≤◌, take, length, [], IfSome};
+    ghost use Rattle.std.specs.List.{AllByRecursion};
     ghost use Rattle.world_core.specs.Stands.{Kept};
 
     ghost Value = { Kept };
@@ -65,16 +73,24 @@ impl Model for World {
       taken = take world.count world.bytes;
     } };
 
-    ghost invariant = { λ world. (world.count ≤ 1024) × IfSome world.seats.spare (λ bytes. bytes ≡ []) };
+    ghost invariant = { λ world. record {
+      count : world.count ≤ 1024;
+      spare : IfSome world.seats.spare (λ bytes. bytes ≡ []);
+      inboxes : AllByRecursion (λ e. length e.1 ≤ 16777216) world.seats.ins.entries;
+    } };
 }
 
 impl World {
     /// The world of a store and the bytes that it took and has not answered. Each domain with a ring connection
     /// has a fresh page that starts at 0, and nothing to put. O(connections).
     pub fn start(alloc: Global, daemon: Daemon, ins: Ins) -> Result<World, NoMemory>
-        requires { map (λ e. e.0) ins.entries ≡ map (λ e. e.0) daemon.unsent }
-        ensures { IfOk result (Begins daemon ins.entries) }
+        requires named { map (λ e. e.0) ins.entries ≡ map (λ e. e.0) daemon.unsent }
+        requires short { AllByRecursion (λ e. length e.1 ≤ 16777216) ins.entries }
+        ensures begins { IfOk result (Begins daemon ins.entries) }
+        // The world that goes on from the state that the store is in is one of those.
+        ensures begun { IfOk result (λ world. StandsFor world (begun_world (state_of daemon ins.entries))) }
     {
+        daemon.is_sound();
         let mut seats = Seats::new(alloc, ins);
         seats.seat_all(alloc, daemon.conns())?;
         Ok(World {
@@ -105,17 +121,19 @@ impl World {
         Ok(())
     }
 
-    /// Plays one event and says what came of it. Want of memory may come at `Send` and `Do` alone, and nothing
+    /// Plays one event and says what came of it. Want of memory may come at `Send`, `Do` and `Handover` alone, and nothing
     /// has changed then. The vault is for handovers.
     ///
     /// Look-ups are O(log domains). `Send`, `Put`, `Intake`, `Out` and `Take` cost the bytes that move, `Do` what
-    /// the store does.
+    /// the store does, `Handover` what [`successor`] does.
     pub fn step<V: Vault>(&mut self, event: &Event, vault: &mut V) -> Said
-        requires { IsBuilt (event_view event.now) }
-        ensures step { Steps self.old (event_view event.now) self.new result }
-        ensures vault { vault.new ≡ vault.old }
+        requires { Moves (event_view event.now) }
+        ensures step { OnTrue (not (is_handover (event_view event.now))) (Steps self.old (event_view event.now) self.new result) }
+        ensures vault { OnTrue (not (is_handover (event_view event.now))) (vault.new ≡ vault.old) }
+        ensures hands_over { OnTrue (is_handover (event_view event.now)) (HandsOver self.old
+            (record { puts = V.puts vault.old; gets = V.gets vault.old; faults = V.faults vault.old; honest = V.honest vault.old }) result self.new
+            (record { puts = V.puts vault.new; gets = V.gets vault.new; faults = V.faults vault.new; honest = V.honest vault.new })) }
     {
-        let _vault = vault;
         match event {
             Event::Send { domid, bytes } => self.send(*domid, bytes.as_slice()),
             Event::Put { domid, max } => self.put(*domid, *max),
@@ -129,7 +147,7 @@ impl World {
                 value,
             } => self.poke(*domid, *which, *value),
             Event::Page { domid } => self.page(*domid),
-            Event::Handover => unreachable!(),
+            Event::Handover => self.hand_over(vault),
         }
     }
 
@@ -189,6 +207,21 @@ impl World {
         match self.seats.guests.get(u32::from(domid)) {
             None => Said::Gone,
             Some(guest) => guest.words(),
+        }
+    }
+
+    fn hand_over<V: Vault>(&mut self, vault: &mut V) -> Said
+        ensures { HandsOver self.old
+            (record { puts = V.puts vault.old; gets = V.gets vault.old; faults = V.faults vault.old; honest = V.honest vault.old }) result self.new
+            (record { puts = V.puts vault.new; gets = V.gets vault.new; faults = V.faults vault.new; honest = V.honest vault.new }) }
+    {
+        match successor(self.alloc, &self.daemon, &self.seats.ins, vault) {
+            Ok((daemon, ins)) => {
+                self.daemon = daemon;
+                self.seats.ins = ins;
+                Said::Handed
+            }
+            Err(refusal) => refused(refusal),
         }
     }
 
@@ -371,6 +404,21 @@ impl World {
         if let Some(guest) = self.seats.guests.get_mut(u32::from(domid)) {
             guest.set_error(error);
         }
+    }
+}
+
+/// What a handover says that was refused.
+fn refused(refusal: Refusal) -> Said
+    ensures { result ≡ refused_by refusal }
+{
+    match refusal {
+        Refusal::VaultFault => Said::RefusedFault,
+        Refusal::Changed(change) => Said::RefusedChanged {
+            at: change.at,
+            put: change.put,
+            got: change.got,
+        },
+        Refusal::NoMemory => Said::NoMemory,
     }
 }
 

@@ -1,7 +1,7 @@
 //! Worked runs of the world, by hand.
 
 ghost use Rattle.guest_script.specs.Views.{event_view};
-ghost use Rattle.world_core.specs.Stands.{IsBuilt};
+ghost use Rattle.world_core.specs.Stands.{Moves};
 
 use daemon::Daemon;
 use guest_script::Event;
@@ -27,7 +27,7 @@ fn new_world(alloc: Global) -> Result<World, NoMemory> {
 
 /// What the world says to an event. A test looks at that alone, and proves sooner without the clauses behind it.
 fn say(world: &mut World, vault: &mut SureVault, event: Event) -> Said
-    requires { IsBuilt (event_view event) }
+    requires { Moves (event_view event) }
 {
     world.step(&event, vault)
 }

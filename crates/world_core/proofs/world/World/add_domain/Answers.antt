@@ -8,6 +8,7 @@ use Rattle.world_core.specs.Stands.{Kept, AddsDomain}
 use Rattle.world_core.specs.Seats.{IsSeated, tables_of}
 use Rattle.world_core.proofs.DoLemmas.{kept_with, same_seats}
 use Rattle.world_core.proofs.AddLemmas.{adds_page, adds_connection}
+use Rattle.world_core.proofs.ShortLemmas.{short_same, short_empty}
 use Rattle.world_core.proofs.world.World.add_domain.Goals as goal
 
 pub returns-then-is_some-clause-ok : goal.returns-then-is_some-clause-ok
@@ -36,3 +37,12 @@ returns-clause-ok c =
     subst (λ k. AddsDomain k c.args.domid c.args.start new) is
     (adds_connection mid new c.args.domid c.args.start c.in_ok-conn.conn (none_of (ring_id c.args.domid c.self.inside.daemon.specs) (ap is_some ring ∙ sym c.is_some.ensures ∙ c.if-is_some.false)) c.in_ok-conn.ensures.id c.in_ok-conn.ensures.ok
     (subst (λ (g : Guest). IsSeated c.args.domid c.in_ok-conn.conn g (tables_of c.make_room.new.self) (tables_of c.seat.new.self)) c.fresh-guest.ensures c.seat.ensures.seated))
+
+pub invariant_of-self-2 : goal.invariant_of-self-2
+invariant_of-self-2 c =
+    let made = short_same 16777216 c.self.inside.seats.ins.entries c.self.invariant.inboxes c.make_room.new.self.ins.entries c.make_room.ensures.same.inboxes in
+    record {
+      count = c.self.invariant.count;
+      spare = c.seat.ensures.spare;
+      inboxes = short_empty 16777216 c.make_room.new.self.ins.entries made c.seat.new.self.ins.entries c.in_ok-conn.conn c.seat.ensures.seated.inboxes;
+    }

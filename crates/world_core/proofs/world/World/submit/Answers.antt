@@ -7,6 +7,7 @@ use Rattle.daemon.specs.Submits.{Submits}
 use Rattle.world_core.specs.Stands.{ActsOrNone}
 use Rattle.world_core.specs.Seats.{tables_of}
 use Rattle.world_core.proofs.DoLemmas.{same_kept, kept_with, same_seats, acts_without_inbox, acts_done, acts_held, acts_crowded, acts_gone}
+use Rattle.world_core.proofs.ShortLemmas.{short_same, short_behind}
 use Rattle.world_core.proofs.world.World.submit.Goals as goal
 
 -- what is kept once room was made is what was kept before
@@ -67,3 +68,15 @@ returns-in-Ok-Gone c =
     let gone = subst (Submits c.self.inside.daemon c.args.conn (take c.args.len c.bytes.result.now) c.submit.new.self) c.in-Ok-Gone.field-0-is c.in-Ok-Gone.ensures.ok in
     subst (λ k. ActsOrNone k c.args.domid c.args.conn (do_message all_types c.args.len) new said.Gone) is
     (inr (acts_gone mid new c.args.domid c.args.conn c.args.len c.in-Some.inbox.now (take c.args.len c.bytes.result.now) (sym c.in-Some.ensures.value) (ap (take c.args.len) c.bytes.ensures) said.Gone gone.0))
+
+-- the inbox without its first message, and a new one is empty
+pub invariant_of-self-in-Ok-Done : goal.invariant_of-self-in-Ok-Done
+invariant_of-self-in-Ok-Done c =
+    let made = short_same 16777216 c.self.inside.seats.ins.entries c.self.invariant.inboxes c.make_room.new.self.ins.entries c.make_room.ensures.same.inboxes in
+    let there = sym c.in-Some.ensures.value in
+    let left = short_behind 16777216 c.make_room.new.self.ins.entries made c.skip_front.new.self.ins.entries c.args.conn c.args.len c.in-Some.inbox.now there (c.skip_front.ensures.inbox c.in-Some.inbox.now there) in
+    record {
+      count = c.self.invariant.count;
+      spare = c.follow.ensures.spare;
+      inboxes = c.follow.ensures.short 16777216 left;
+    }

@@ -1,4 +1,4 @@
-use Rattle.std.proofs.Common.{◌≡◌, refl, sym, ap, subst, ◌∙◌, take}
+use Rattle.std.proofs.Common.{◌≡◌, refl, sym, ap, subst, ◌∙◌, take, arith}
 use Rattle.std.specs.Ordering.{nat_cmp}
 use Rattle.std.specs.FinMap.{find, put}
 use Rattle.world_model.specs.declared.Said.TheVariants as said
@@ -7,6 +7,7 @@ use Rattle.world_core.specs.Stands.{Kept, Acts}
 use Rattle.world_core.proofs.DoLemmas.{acts_without_inbox, same_kept}
 use Rattle.conn_rows.proofs.IdEntries.{put_again}
 use Rattle.world_core.proofs.InLemmas.{took_in, dropped_in}
+use Rattle.world_core.proofs.ShortLemmas.{short_put, short_at}
 use Rattle.world_core.proofs.world.World.take_in.Goals as goal
 
 pub returns-in_default-get_mut : goal.returns-in_default-get_mut
@@ -38,3 +39,22 @@ returns-in-Err c =
     subst (λ k. Acts k c.args.domid c.args.conn (intake_ring c.args.domid c.args.max) c.drop_for_index.new.self c.drop_for_index.result) c.self.view_is
     (dropped_in old c.drop_for_index.new.self c.args.domid c.args.conn c.args.max c.in-Some.guest.now c.in-Some-get_mut.inbox.now there (sym c.in-Some-get_mut.ensures.value)
     c.drop_for_index.result c.in-Err.bad _ c.in-Err.ensures.count drops)
+
+-- an inbox is no longer than before, or than a message
+pub invariant_of-self-in-Ok : goal.invariant_of-self-in-Ok
+invariant_of-self-in-Ok c =
+    let was = short_at 16777216 c.self.inside.seats.ins.entries c.self.invariant.inboxes c.args.conn c.in-Some-get_mut.inbox.now (sym c.in-Some-get_mut.ensures.value) in
+    record {
+      count = c.self.invariant.count;
+      spare = c.self.invariant.spare;
+      inboxes = short_put 16777216 c.self.inside.seats.ins.entries c.self.invariant.inboxes _ c.args.conn c.intake.new.inbox refl (c.intake.ensures.short 16777216 (omega arith) was);
+    }
+
+pub invariant_of-self-in-Err : goal.invariant_of-self-in-Err
+invariant_of-self-in-Err c =
+    let was = short_at 16777216 c.self.inside.seats.ins.entries c.self.invariant.inboxes c.args.conn c.in-Some-get_mut.inbox.now (sym c.in-Some-get_mut.ensures.value) in
+    record {
+      count = c.self.invariant.count;
+      spare = c.self.invariant.spare;
+      inboxes = short_put 16777216 c.self.inside.seats.ins.entries c.self.invariant.inboxes _ c.args.conn c.intake.new.inbox refl (c.intake.ensures.short 16777216 (omega arith) was);
+    }
