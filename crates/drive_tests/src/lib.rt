@@ -3,4 +3,6 @@
 #![tactic(auto)]
 
 #[cfg(test)]
+mod handover_calls;
+#[cfg(test)]
 mod xs_drive_calls;

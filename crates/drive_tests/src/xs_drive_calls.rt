@@ -52,8 +52,12 @@ fn plays_worked_scripts(rt: HostRuntime) -> Result<(), Fail> {
             "send 0 16\nput 0 16\nintake 0 16\ndo 0 dropped length 4097\nout 0 gone\n\
              take 0 -\npage 0 16 16 0 0 3\nput 1 gone\n",
         ),
-        ("handover\n", Status::Unbuilt, ""),
-        ("poke 0 req_prod 1\n", Status::Unbuilt, ""),
+        ("handover\n", Status::Done, "handover new\n"),
+        (
+            "poke 0 req_prod 2000\nintake 0 1\npage 0",
+            Status::Done,
+            "poke 0 ok\nintake 0 dropped index 2000 0\npage 0 0 2000 0 0 2\n",
+        ),
         (
             "domain 1 at 9\npage 1\nput 2 1",
             Status::Done,

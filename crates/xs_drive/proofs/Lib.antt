@@ -1,3 +1,6 @@
+pub mod HandLemmas
+pub mod RunLemmas
+pub mod StepLemmas
 pub mod PlayLemmas
 pub mod StartLemmas
 pub mod FormLemmas

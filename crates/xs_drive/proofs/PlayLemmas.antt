@@ -1,146 +1,133 @@
 -- The lines of events, one after the other, through a buffer.
-use Rattle.std.proofs.Common.{◌≡◌, ℕ, zero, suc, ◌+◌, ◌<◌, ◌≤◌, Bool, true, false, List, [], ◌∷◌, ◌++◌, length, map, get_or, take, drop, Result, Ok, Err, is_err, OnOk, OnErr, Option, inl, inr, refl, sym, ap, subst, ◌∙◌, append_assoc, arith, le_of_suc-le-suc}
-use Rattle.std.proofs.lemmas.List.{append-nil, take-append-drop, drop_all, drop_more, length-map, get_or-map}
+use Rattle.std.proofs.Common.{◌≡◌, ◌⊎◌, ℕ, zero, suc, ◌+◌, ◌<◌, ◌≤◌, Bool, true, false, cond, List, [], ◌∷◌, ◌++◌, length, map, get_or, drop, Result, Ok, Err, is_err, OnOk, OnErr, Option, inl, inr, sym, ap, subst, ◌∙◌, append_assoc, arith, le_of_suc-le-suc}
+use Rattle.std.proofs.lemmas.List.{append-nil, drop_all, drop_more, length-map, get_or-map}
 use Rattle.std.proofs.lemmas.Bool.{false≢true}
 use Rattle.std.specs.List.{AllByRecursion}
-use Rattle.xs_model.specs.Requests.{all_types}
+use Rattle.std.specs.Io.KnownBytes.{Appends}
+use Rattle.kept_model.specs.Images.{image}
 use Rattle.world_model.specs.declared.Said.{Said}
-use Rattle.world_model.specs.declared.Said.TheVariants as said
-use Rattle.world_model.specs.Worlds.{World, Event, Send, Put, Intake, Do, Out, Take, Poke, ShowPage, Handover, event_with}
-use Rattle.world_model.specs.Transcripts.{said_words, event_words, spaced, said_line, said_among, says_after, lines_from}
+use Rattle.world_model.specs.Worlds.{World, Event}
+use Rattle.world_model.specs.Transcripts.{is_handover}
+use Rattle.world_states.specs.States.{kept}
 use Rattle.guest_script.specs.declared.event.Event.{Event as CodeEvent}
 use Rattle.guest_script.specs.Views.{event_view}
-use Rattle.program_io.specs.Ends.{AppendsBut}
-use Rattle.world_core.specs.Stands.{Kept, StandsFor, Follows, IsBuilt, Steps}
-use Rattle.xs_drive.specs.Play.{line_in, Prints, PrintsFront}
+use Rattle.program_io.specs.Ends.{AppendsBut, AppendsFront}
+use Rattle.program_io.proofs.EndLemmas.{nothing_appended, appends_then, all_then, front_then}
+use Rattle.handover.specs.Hands.{Told}
+use Rattle.world_core.specs.Stands.{Kept, StandsFor, Moves}
+use Rattle.xs_drive.specs.Vaults.{images, MayTake, MayHand}
+use Rattle.xs_drive.specs.Play.{line_in, Prints, PrintsNothing, RunsAll, RunsFront}
+use Rattle.xs_drive.proofs.HandLemmas.{may_none}
+use Rattle.xs_drive.proofs.RunLemmas as run
 
--- THE LINE of an event that is no handover is that of what it says
-said_plain : (e : Event) (s : Said) → IsBuilt e → said_among e [] s ≡ s
-said_plain (Send d bytes) s built = refl
-said_plain (Put d max) s built = refl
-said_plain (Intake d max) s built = refl
-said_plain (Do d) s built = refl
-said_plain (Out d max) s built = refl
-said_plain (Take d max) s built = refl
-said_plain (Poke d which v) s built = refl
-said_plain (ShowPage d) s built = refl
-said_plain Handover s built = absurd built
+-- THE EVENT at hand
+pub moves_at : (es : List CodeEvent) (i : ℕ) (d : CodeEvent) → AllByRecursion Moves (map event_view es) → i < length es → Moves (event_view (get_or es i d))
+moves_at [] i d h lt = absurd (omega arith)
+moves_at (e ∷ es) zero d h lt = h.0
+moves_at (e ∷ es) (suc i) d h lt = moves_at es i d h.1 (le_of_suc-le-suc lt)
 
-none_left_to_say : (e : Event) → says_after e [] ≡ []
-none_left_to_say (Send d bytes) = refl
-none_left_to_say (Put d max) = refl
-none_left_to_say (Intake d max) = refl
-none_left_to_say (Do d) = refl
-none_left_to_say (Out d max) = refl
-none_left_to_say (Take d max) = refl
-none_left_to_say (Poke d which v) = refl
-none_left_to_say (ShowPage d) = refl
-none_left_to_say Handover = refl
-
--- the bytes of a take are printed, and of no other answer
-same_words : (s : Said) (t u : List ℕ) → ((n : ℕ) → s ≡ said.Got n → t ≡ u) → said_words s t ≡ said_words s u
-same_words said.Gone t u h = refl
-same_words (said.Queued n) t u h = refl
-same_words (said.Put n) t u h = refl
-same_words said.InFull t u h = refl
-same_words (said.DroppedIndex prod cons) t u h = refl
-same_words (said.Took n) t u h = refl
-same_words said.Part t u h = refl
-same_words (said.DroppedLength len) t u h = refl
-same_words (said.Held unsent) t u h = refl
-same_words (said.Crowded conn) t u h = refl
-same_words said.Done t u h = refl
-same_words said.NoneQueued t u h = refl
-same_words said.NoSpace t u h = refl
-same_words (said.Sent n) t u h = refl
-same_words (said.Got n) t u h = ap (said_words (said.Got n)) (h n refl)
-same_words said.Poked t u h = refl
-same_words (said.Page a b c d e) t u h = refl
-same_words said.Handed t u h = refl
-same_words said.RefusedFault t u h = refl
-same_words (said.RefusedChanged at put got) t u h = refl
-same_words said.NoMemory t u h = refl
-
-line_is : (w : World) (e : Event) (new : Kept) (s : Said) → IsBuilt e → Follows new s (event_with all_types e w) → said_line e s new.taken ≡ line_in w e
-line_is w e new s built follows =
-    let told = event_with all_types e w in
-    ap (λ x. spaced (event_words e ++ x) ++ 10 ∷ []) (same_words s new.taken told.taken follows.taken)
-    ∙ ap (λ x. said_line e x told.taken) (follows.says ∙ sym (said_plain e told.said built))
-
--- ONE STEP and its line
-follows_of : (old new : Kept) (e : Event) (s : Said) (w : World) → (s ≡ said.NoMemory → ⊥) → Steps old e new s → StandsFor old w → Follows new s (event_with all_types e w)
-follows_of old new e s w found (inl none) stands = absurd (found none.none)
-follows_of old new e s w found (inr steps) stands = steps w stands
-
-pub prints_step : (old new : Kept) (e : Event) (s : Said) (lines lines_new : List ℕ) → IsBuilt e → (s ≡ said.NoMemory → ⊥) → Steps old e new s → lines_new ≡ lines ++ said_line e s new.taken → Prints old e lines new lines_new
-prints_step old new e s lines lines_new built found steps printed w stands =
-    let follows = follows_of old new e s w found steps stands in
-    record { stands = follows.stands; printed = printed ∙ ap (λ l. lines ++ l) (line_is w e new s built follows) }
-
-pub front_of_step : (old new : Kept) (e : Event) (s : Said) (lines lines_new : List ℕ) (n : ℕ) → IsBuilt e → (s ≡ said.NoMemory → ⊥) → Steps old e new s → lines_new ≡ lines ++ take n (said_line e s new.taken) → PrintsFront old e lines lines_new
-front_of_step old new e s lines lines_new n built found steps printed w stands =
-    (n, printed ∙ ap (λ l. lines ++ take n l) (line_is w e new s built (follows_of old new e s w found steps stands)))
-
-pub nothing_printed : (old : Kept) (e : Event) (lines : List ℕ) → PrintsFront old e lines lines
-nothing_printed old e lines w stands = (0, sym (append-nil lines))
-
--- ALL EVENTS
-pub built_at : (es : List CodeEvent) (i : ℕ) (d : CodeEvent) → AllByRecursion IsBuilt (map event_view es) → i < length es → IsBuilt (event_view (get_or es i d))
-built_at [] i d h lt = absurd (omega arith)
-built_at (e ∷ es) zero d h lt = h.0
-built_at (e ∷ es) (suc i) d h lt = built_at es i d h.1 (le_of_suc-le-suc lt)
-
-lines_more : (w : World) (e : Event) (es : List Event) → lines_from all_types w (e ∷ es) [] ≡ line_in w e ++ lines_from all_types (event_with all_types e w).world es []
-lines_more w e es = ap (λ s. line_in w e ++ lines_from all_types (event_with all_types e w).world es s) (none_left_to_say e)
-
-pub split_at : (es : List CodeEvent) (i : ℕ) (e : CodeEvent) → i < length es → e ≡ get_or es i e → drop i (map event_view es) ≡ event_view e ∷ drop (i + 1) (map event_view es)
+split_at : (es : List CodeEvent) (i : ℕ) (e : CodeEvent) → i < length es → e ≡ get_or es i e → drop i (map event_view es) ≡ event_view e ∷ drop (i + 1) (map event_view es)
 split_at es i e lt is =
     drop_more (map event_view es) i (event_view e) (omega (arith, length-map es event_view))
     ∙ ap (λ (x : Event). x ∷ drop (i + 1) (map event_view es)) (get_or-map event_view es i e (event_view e) lt ∙ ap event_view (sym is))
 
--- what is still to be printed, in a world that the code's world stands for
-pub record Left (world : Kept) (lines : List ℕ) (rest : List Event) (old new : Option (List ℕ)) (text : List ℕ) : Type 0 where
-  pub w : World
-  pub stands : StandsFor world w
-  pub all : AppendsBut old new text (lines ++ lines_from all_types w rest [])
+-- A RUN THAT GOES ON, from a world that the code's world stood for: it stands for the world at hand, and the lines so far
+-- were written but for those in the buffer
+pub record Going (w : World) (events : List Event) (vault : Told) (out : Option (List ℕ)) (world : Kept) (left : List Event) (now : Told) (out_now : Option (List ℕ)) (buffer : List ℕ) : Type 0 where
+  pub at : World
+  pub stands : StandsFor world at
+  pub says : List Said
+  pub lines : List ℕ
+  pub played : run.Played w events vault at left now says lines
+  pub written : AppendsBut out out_now lines buffer
 
-line_first : (w : World) (es : List CodeEvent) (i : ℕ) (e : CodeEvent) → i < length es → e ≡ get_or es i e → lines_from all_types w (drop i (map event_view es)) [] ≡ line_in w (event_view e) ++ lines_from all_types (event_with all_types (event_view e) w).world (drop (i + 1) (map event_view es)) []
-line_first w es i e lt is =
-    ap (λ rest. lines_from all_types w rest []) (split_at es i e lt is) ∙ lines_more w (event_view e) (drop (i + 1) (map event_view es))
+pub begins : (w : World) (events : List Event) (vault : Told) (out : Option (List ℕ)) (world : Kept) (buffer : List ℕ) → buffer ≡ [] → StandsFor world w → Going w events vault out world events vault out buffer
+begins w events vault out world buffer none stands =
+    record { at = w; stands = stands; says = []; lines = []; played = run.none_played w events vault; written = ([], nothing_appended out, sym none) }
 
-pub one_more : (world next : Kept) (lines pushed : List ℕ) (es : List CodeEvent) (i : ℕ) (e : CodeEvent) (old new : Option (List ℕ)) (text : List ℕ) → i < length es → e ≡ get_or es i e → Left world lines (drop i (map event_view es)) old new text → Prints world (event_view e) lines next pushed → Left next pushed (drop (i + 1) (map event_view es)) old new text
-one_more world next lines pushed es i e old new text lt is left prints =
-    let printed = prints left.w left.stands in
-    let w_next = (event_with all_types (event_view e) left.w).world in
-    let rest = lines_from all_types w_next (drop (i + 1) (map event_view es)) [] in
-    let same : lines ++ lines_from all_types left.w (drop i (map event_view es)) [] ≡ pushed ++ rest =
-    ap (λ l. lines ++ l) (line_first left.w es i e lt is) ∙ sym (append_assoc lines (line_in left.w (event_view e)) rest) ∙ ap (λ l. l ++ rest) (sym printed.printed)
-    in
-    record { w = w_next; stands = printed.stands; all = subst (λ (l : List ℕ). AppendsBut old new text l) same left.all }
+module _ (w : World) (events : List Event) (vault : Told) (out : Option (List ℕ)) where
+  -- one event and its line
+  event_played : (world next : Kept) (e : Event) (left : List Event) (now new : Told) (out_now : Option (List ℕ)) (buffer pushed : List ℕ)
+      → Going w events vault out world (e ∷ left) now out_now buffer → Prints world e buffer now next pushed new → Going w events vault out next left new out_now pushed
+  event_played world next e left now new out_now buffer pushed going prints =
+      let printed = prints going.at going.stands in
+      let line : List ℕ = line_in going.at e printed.says in
+      record {
+        at = run.next going.at e;
+        stands = printed.stands;
+        says = going.says ++ printed.says;
+        lines = going.lines ++ line;
+        played = run.one_played w events vault going.at e left now new going.says printed.says going.lines going.played (run.one_of going.at e printed.says now new printed.said);
+        written = (
+          going.written.0,
+          going.written.1,
+          ap (λ x. x ++ line) going.written.2 ∙ append_assoc going.written.0 buffer line ∙ ap (λ x. going.written.0 ++ x) (sym printed.printed),
+        );
+      }
 
--- a front of the next line behind the lines is a front of what is to be printed
-pub record Stops (lines : List ℕ) (old new : Option (List ℕ)) (text : List ℕ) : Type 0 where
-  pub rest : List ℕ
-  pub all : AppendsBut old new text (lines ++ rest)
+  pub one_more : (world next : Kept) (es : List CodeEvent) (i : ℕ) (e : CodeEvent) (now new : Told) (out_now : Option (List ℕ)) (buffer pushed : List ℕ) → i < length es → e ≡ get_or es i e
+      → Going w events vault out world (drop i (map event_view es)) now out_now buffer → Prints world (event_view e) buffer now next pushed new → Going w events vault out next (drop (i + 1) (map event_view es)) new out_now pushed
+  one_more world next es i e now new out_now buffer pushed lt is going prints =
+      event_played world next (event_view e) (drop (i + 1) (map event_view es)) now new out_now buffer pushed
+      (subst (λ (left : List Event). Going w events vault out world left now out_now buffer) (split_at es i e lt is) going) prints
 
-pub stopped : (world : Kept) (lines pushed : List ℕ) (es : List CodeEvent) (i : ℕ) (e : CodeEvent) (old new : Option (List ℕ)) (text : List ℕ) → i < length es → e ≡ get_or es i e → Left world lines (drop i (map event_view es)) old new text → PrintsFront world (event_view e) lines pushed → Stops pushed old new text
-stopped world lines pushed es i e old new text lt is left front =
-    let part = front left.w left.stands in
-    let line = line_in left.w (event_view e) in
-    let rest = lines_from all_types (event_with all_types (event_view e) left.w).world (drop (i + 1) (map event_view es)) [] in
-    let same : lines ++ lines_from all_types left.w (drop i (map event_view es)) [] ≡ pushed ++ (drop part.0 line ++ rest) =
-    ap (λ l. lines ++ l) (line_first left.w es i e lt is)
-    ∙ ap (λ l. lines ++ (l ++ rest)) (sym (take-append-drop part.0 line))
-    ∙ ap (λ l. lines ++ l) (append_assoc (take part.0 line) (drop part.0 line) rest)
-    ∙ sym (append_assoc lines (take part.0 line) (drop part.0 line ++ rest))
-    ∙ ap (λ l. l ++ (drop part.0 line ++ rest)) (sym part.1)
-    in
-    record { rest = drop part.0 line ++ rest; all = subst (λ (l : List ℕ). AppendsBut old new text l) same left.all }
+  -- some of the lines were written
+  pub some_written : (world : Kept) (left : List Event) (now : Told) (out_now out_new : Option (List ℕ)) (buffer rest : List ℕ)
+      → Going w events vault out world left now out_now buffer → AppendsBut out_now out_new buffer rest → Going w events vault out world left now out_new rest
+  some_written world left now out_now out_new buffer rest going more = record {
+    at = going.at;
+    stands = going.stands;
+    says = going.says;
+    lines = going.lines;
+    played = going.played;
+    written = (
+      going.written.0 ++ more.0,
+      appends_then out out_now out_new going.written.0 more.0 going.written.1 more.1,
+      going.written.2 ∙ ap (λ x. going.written.0 ++ x) more.2 ∙ sym (append_assoc going.written.0 more.0 rest),
+    );
+  }
 
-pub all_played : (world : Kept) (lines : List ℕ) (es : List CodeEvent) (i : ℕ) (old new : Option (List ℕ)) (text : List ℕ) → length es ≤ i → Left world lines (drop i (map event_view es)) old new text → AppendsBut old new text lines
-all_played world lines es i old new text le left =
-    let nothing : drop i (map event_view es) ≡ [] = drop_all i (map event_view es) (omega (arith, length-map es event_view)) in
-    subst (λ (l : List ℕ). AppendsBut old new text l) (ap (λ rest. lines ++ lines_from all_types left.w rest []) nothing ∙ append-nil lines) left.all
+  front_of : (world : Kept) (left : List Event) (now : Told) (out_now out_new : Option (List ℕ)) (buffer : List ℕ) (going : Going w events vault out world left now out_now buffer)
+      → AppendsFront out_now out_new buffer → AppendsFront out out_new going.lines
+  front_of world left now out_now out_new buffer going more =
+      front_then out out_now out_new going.lines buffer []
+      (going.written.0, going.written.1, going.written.2 ∙ ap (λ x. going.written.0 ++ x) (sym (append-nil buffer))) more
+
+  -- THE ENDS. A front of the lines was written, and no event came since
+  pub stopped : (world : Kept) (left : List Event) (now : Told) (out_now out_new : Option (List ℕ)) (buffer : List ℕ)
+      → Going w events vault out world left now out_now buffer → AppendsFront out_now out_new buffer → RunsFront w events out out_new vault now
+  stopped world left now out_now out_new buffer going more =
+      run.front_played w events vault going.at left now now going.says going.lines going.played (may_none (images going.at left) now)
+      out out_new (front_of world left now out_now out_new buffer going more)
+
+  -- or one came of which nothing was printed
+  event_failed : (at : World) (e : Event) (left : List Event) (now new : Told)
+      → ((is_handover e ≡ false) × (new ≡ now)) ⊎ ((is_handover e ≡ true) × MayTake (image (kept at)) now new) → MayHand (images at (e ∷ left)) now new
+  event_failed at e left now new (inl plain) = subst (λ (t : Told). MayHand (images at (e ∷ left)) now t) (sym plain.1) (may_none (images at (e ∷ left)) now)
+  event_failed at e left now new (inr hands) =
+      let later = images (run.next at e) left in
+      let some : images at (e ∷ left) ≡ image (kept at) ∷ later = ap (λ b. cond b (image (kept at) ∷ later) later) hands.0 in
+      subst (λ (is : List (List ℕ)). MayHand is now new) (sym some) (new, hands.1, may_none later new)
+
+  starved_at : (world : Kept) (e : Event) (left : List Event) (now new : Told) (out_now out_new : Option (List ℕ)) (buffer : List ℕ)
+      → Going w events vault out world (e ∷ left) now out_now buffer → PrintsNothing world e now new → AppendsFront out_now out_new buffer → RunsFront w events out out_new vault new
+  starved_at world e left now new out_now out_new buffer going nothing more =
+      run.front_played w events vault going.at (e ∷ left) now new going.says going.lines going.played
+      (event_failed going.at e left now new (nothing going.at going.stands)) out out_new (front_of world (e ∷ left) now out_now out_new buffer going more)
+
+  pub starved : (world : Kept) (es : List CodeEvent) (i : ℕ) (e : CodeEvent) (now new : Told) (out_now out_new : Option (List ℕ)) (buffer : List ℕ) → i < length es → e ≡ get_or es i e
+      → Going w events vault out world (drop i (map event_view es)) now out_now buffer → PrintsNothing world (event_view e) now new → AppendsFront out_now out_new buffer → RunsFront w events out out_new vault new
+  starved world es i e now new out_now out_new buffer lt is going nothing more =
+      starved_at world (event_view e) (drop (i + 1) (map event_view es)) now new out_now out_new buffer
+      (subst (λ (left : List Event). Going w events vault out world left now out_now buffer) (split_at es i e lt is) going) nothing more
+
+  -- all events were played, and all lines written
+  pub all_done : (world : Kept) (es : List CodeEvent) (i : ℕ) (now : Told) (out_now out_new : Option (List ℕ)) (buffer : List ℕ) → length es ≤ i
+      → Going w events vault out world (drop i (map event_view es)) now out_now buffer → Appends out_now out_new buffer → RunsAll w events out out_new vault now
+  all_done world es i now out_now out_new buffer le going written =
+      let nothing : drop i (map event_view es) ≡ [] = drop_all i (map event_view es) (omega (arith, length-map es event_view)) in
+      let played = subst (λ (left : List Event). run.Played w events vault going.at left now going.says going.lines) nothing going.played in
+      run.all_played w events vault going.at now going.says going.lines out out_new played (all_then out out_now out_new going.lines buffer going.written written)
 
 -- what a call says that was refused, or was not
 pub of_is_err : {T E : Type 0} (r : Result T E) (b : Bool) (P : Type 0) → b ≡ is_err r → b ≡ true → OnErr r P → P
@@ -156,6 +143,6 @@ pub on_ok : {T E : Type 0} (r : Result T E) (P Q : Type 0) → (P → Q) → OnO
 on_ok (Ok x) P Q f says = f says
 on_ok (Err e) P Q f says = says
 
-pub on_err : {T E : Type 0} (r : Result T E) (P Q : Type 0) → (P → Q) → OnErr r P → OnErr r Q
-on_err (Ok x) P Q f says = says
-on_err (Err e) P Q f says = f says
+pub always_err : {T E : Type 0} (r : Result T E) (P : Type 0) → P → OnErr r P
+always_err (Ok x) P p = tt
+always_err (Err e) P p = p

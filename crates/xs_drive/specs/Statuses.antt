@@ -1,7 +1,7 @@
 -- The statuses of `drive`. This project's own.
 use Rattle.std.specs.Prelude.{ℕ, Bool, true, false}
 use Rattle.xs_drive.specs.declared.status.Status.{Status}
-use Rattle.xs_drive.specs.declared.status.Status.TheVariants.{Done, Usage, Script, TooLong, ReadFault, WriteFault, NoMemory, Unbuilt}
+use Rattle.xs_drive.specs.declared.status.Status.TheVariants.{Done, Usage, Script, TooLong, ReadFault, WriteFault, NoMemory, Load}
 
 abbrev pub number_of_status : Status → ℕ
 number_of_status Done = 0
@@ -11,7 +11,7 @@ number_of_status TooLong = 4
 number_of_status ReadFault = 5
 number_of_status WriteFault = 6
 number_of_status NoMemory = 7
-number_of_status Unbuilt = 9
+number_of_status (Load fault) = 8
 
 -- whether the run had not begun, so that nothing was written
 abbrev pub is_before_run : Status → Bool
@@ -22,4 +22,4 @@ is_before_run TooLong = true
 is_before_run ReadFault = true
 is_before_run WriteFault = false
 is_before_run NoMemory = false
-is_before_run Unbuilt = true
+is_before_run (Load fault) = true

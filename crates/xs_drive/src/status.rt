@@ -1,5 +1,6 @@
 //! How a run ends.
 
+use kept_model::LoadFault;
 use world_model::LineKind;
 
 /// The end of a call of `drive`. Its number is the program's exit status.
@@ -19,8 +20,8 @@ pub enum Status {
     WriteFault,
     /// No memory was found.
     NoMemory,
-    /// The script asks for what is not built yet.
-    Unbuilt,
+    /// The stream with which the script begins tells no state, and this is its first fault.
+    Load { fault: LoadFault },
 }
 
 impl Status {
@@ -39,7 +40,7 @@ impl Status {
             Status::ReadFault => 5,
             Status::WriteFault => 6,
             Status::NoMemory => 7,
-            Status::Unbuilt => 9,
+            Status::Load { .. } => 8,
         }
     }
 }

@@ -37,12 +37,14 @@ fn words<R: Env + AllocGlobal>(rt: &R) -> io::Result<Vec<String>> {
 
 /// Says on standard error why a run did not end with Done.
 fn say<R: Eprint>(rt: &R, status: Status) {
-    if let Status::Script { line, kind } = status {
-        let _ = eprintln!(rt; "xslu: line {line}: {kind}");
-    } else {
-        let reason = reason(status);
-        let _ = eprintln!(rt; "xslu: {reason}");
-    }
+    let _said = match status {
+        Status::Script { line, kind } => eprintln!(rt; "xslu: line {line}: {kind}"),
+        Status::Load { fault } => eprintln!(rt; "xslu: the stream to resume: {fault}"),
+        _ => {
+            let reason = reason(status);
+            eprintln!(rt; "xslu: {reason}")
+        }
+    };
 }
 
 /// What is said of a run that did not end with Done.
@@ -55,6 +57,6 @@ fn reason(status: Status) -> &'static str {
         Status::ReadFault => "standard input failed",
         Status::WriteFault => "standard output failed",
         Status::NoMemory => "out of memory",
-        Status::Unbuilt => "the script asks for what is not built yet",
+        Status::Load { .. } => "the stream to resume tells no state",
     }
 }

@@ -1,17 +1,21 @@
-use Rattle.std.proofs.Common.{◌≡◌, [], map, drop}
+use Rattle.std.proofs.Common.{map, drop}
 use Rattle.xs_base.specs.Faults.{NeverFalls}
-use Rattle.xs_model.specs.Requests.{all_types}
-use Rattle.world_model.specs.Transcripts.{script_lines}
-use Rattle.guest_script.specs.Views.{event_view, script_view}
-use Rattle.xs_drive.proofs.PlayLemmas.{Left}
+use Rattle.world_model.specs.Worlds.{World}
+use Rattle.guest_script.specs.Views.{event_view}
+use Rattle.world_core.specs.Stands.{StandsFor}
+use Rattle.xs_drive.proofs.PlayLemmas.{Going}
 use Rattle.xs_drive.proofs.play.play.Given as goal
 
--- what was written, the lines in the buffer and those still to come are all lines
+-- from each world that the code's world stood for the run goes on
 abbrev pub invariant-loop-event : goal.invariant-loop-event
 invariant-loop-event g l =
     let sink = g.K.Sink in
+    let v = g.V.Vault in
     record {
-      left : Left l.world l.lines (drop l.event-index (map event_view l.script.events)) (sink.written l.fn.out) (sink.written l.out) (script_lines all_types (script_view l.script) []);
+      going : (w : World) → StandsFor l.fn.world w → Going w (map event_view l.events)
+          (record { puts = v.puts l.fn.vault; gets = v.gets l.fn.vault; faults = v.faults l.fn.vault; honest = v.honest l.fn.vault })
+          (sink.written l.fn.out) l.world (drop l.event-index (map event_view l.events))
+          (record { puts = v.puts l.vault; gets = v.gets l.vault; faults = v.faults l.vault; honest = v.honest l.vault })
+          (sink.written l.out) l.lines;
       counts : NeverFalls (sink.faults l.fn.out) (sink.faults l.out);
-      vault : l.vault ≡ l.fn.vault;
     }
