@@ -1,6 +1,6 @@
-# Two drivers find each other. Domain 0 makes a folder for the device of domain 1, lets it write there, and watches the
-# device's state. Domain 1 writes its side in one transaction: until the commit nobody is told, and then domain 0 gets the
-# one event that its watch is on. A watch below a guest's home names its path relatively.
+# Two drivers find each other while the daemon is replaced. Domain 0 makes a folder for the device of domain 1, lets it
+# write there, and watches the device's state. Domain 1 writes its side in one transaction: until the commit nobody is told,
+# and then domain 0 gets the one event that its watch is on. A watch below a guest's home names its path relatively.
 domain 1 at 0
 # MKDIR of the folder
 send 0 0c00000000000000000000001d0000002f6c6f63616c2f646f6d61696e2f312f6465766963652f7669662f3000
@@ -29,6 +29,8 @@ serve 1
 # nothing has come to domain 0 yet: READ of the state is ENOENT
 send 0 020000000000000000000000230000002f6c6f63616c2f646f6d61696e2f312f6465766963652f7669662f302f737461746500
 serve 0
+# the daemon is replaced while the transaction is open
+handover
 # domain 1: END with a commit, its reply and its event
 send 1 070000000000000001000000020000005400
 serve 1
