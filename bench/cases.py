@@ -329,5 +329,52 @@ def digits(count):
     print(stream(count).hex())
 
 
+# Handovers.
+
+
+def host_paths(count):
+    """So many nodes of host paths in order, with those above them."""
+    paths = {b"/", b"/local", b"/local/domain"}
+    place = 0
+    while len(paths) < count:
+        device = b"/local/domain/%d/device" % (place // 4)
+        vif = device + b"/vif/%d" % (place % 4)
+        paths |= {device[:-7], device, device + b"/vif", vif, vif + b"/state"}
+        place += 1
+    return sorted(paths, key=lambda path: path.replace(b"/", b"\0"))[:count]
+
+
+def committed(path, value):
+    return record(5, struct.pack("<IIHHHH", 0, 1, len(path) + 1, len(value), 0, 1) + b"n\0\0\0" + path + b"\0" + value)
+
+
+def looked_at(conn, tx, path, value):
+    head = struct.pack("<IIHHHH", conn, tx, len(path) + 1, len(value), 1, 1)
+    return record(5, head + b"n\0\0\0" + path + b"\0" + value)
+
+
+def state(size):
+    """So many nodes; 1000 ring connections with 10 watches each; 100 of them have a transaction with 10 entries open."""
+    conns = range(1, 1001)
+    ring = [record(2, struct.pack("<IHHHHIIII", c, 0, 0, c - 1, 0x7FF4, 0, 0, 0, 0)) for c in conns]
+    watches = [
+        record(3, struct.pack("<IHH", c, len(b"/local/domain/%d\0" % w), 2) + b"/local/domain/%d\0" % w + b"%d\0" % (w % 10))
+        for c in conns
+        for w in range(10)
+    ]
+    opens = [record(4, struct.pack("<III", c, 1, 0)) for c in conns[:100]]
+    paths = host_paths(size)
+    nodes = [committed(path, b"4") for path in paths]
+    marks = [looked_at(c, 1, path, b"4") for c in conns[:100] for path in paths[:10]]
+    head = b"xenstore" + struct.pack(">I", 1) + bytes(4) + record(1, struct.pack("<ii", -1, -1))
+    return head + b"".join(ring + watches + opens + nodes + marks) + record(0, b"")
+
+
+def handovers(count, size):
+    """A state with so many nodes goes on, and is handed over; a unit is a node of a handover."""
+    print("resume " + state(size).hex())
+    print("handover\n" * (count // size), end="")
+
+
 case, _, size = sys.argv[1].partition(":")
 globals()[case](int(sys.argv[2]), *map(int, size.split()))

@@ -80,6 +80,10 @@ row units - 2500 'watches: RM of 1000 nodes with one on each, a node' watched_rm
 row units - - 'watches: RM of 1000 nodes with one above them, a node' rm_below_watch:1000 1000
 row units - - 'watches: RM of 1000 nodes without any, a node' rm_unwatched:1000 1000
 
+for size in 10000 100000; do
+  row units - 2000 "handovers: of $size nodes, 1000 connections and 100 transactions, a node" "handovers:$size" $((size * 2))
+done
+
 row units 15000 - 'depth: READ of an absent path of 60 levels' absent:60 200
 row units 730000 - 'depth: READ of an absent path of 960 levels' absent:960 20
 row seconds 0.05 - '16000 head lines `domain` in falling order, seconds' falling_domains 16000
