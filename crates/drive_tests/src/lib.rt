@@ -3,6 +3,8 @@
 #![tactic(auto)]
 
 #[cfg(test)]
+mod form_calls;
+#[cfg(test)]
 mod handover_calls;
 #[cfg(test)]
 mod xs_drive_calls;

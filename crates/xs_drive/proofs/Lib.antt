@@ -6,3 +6,4 @@ pub mod StartLemmas
 pub mod FormLemmas
 pub mod DriveLemmas
 pub mod SourceLemmas
+pub mod CountLemmas

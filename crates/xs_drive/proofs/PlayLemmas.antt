@@ -26,7 +26,7 @@ moves_at [] i d h lt = absurd (omega arith)
 moves_at (e ∷ es) zero d h lt = h.0
 moves_at (e ∷ es) (suc i) d h lt = moves_at es i d h.1 (le_of_suc-le-suc lt)
 
-split_at : (es : List CodeEvent) (i : ℕ) (e : CodeEvent) → i < length es → e ≡ get_or es i e → drop i (map event_view es) ≡ event_view e ∷ drop (i + 1) (map event_view es)
+pub split_at : (es : List CodeEvent) (i : ℕ) (e : CodeEvent) → i < length es → e ≡ get_or es i e → drop i (map event_view es) ≡ event_view e ∷ drop (i + 1) (map event_view es)
 split_at es i e lt is =
     drop_more (map event_view es) i (event_view e) (omega (arith, length-map es event_view))
     ∙ ap (λ (x : Event). x ∷ drop (i + 1) (map event_view es)) (get_or-map event_view es i e (event_view e) lt ∙ ap event_view (sym is))
@@ -101,7 +101,7 @@ module _ (w : World) (events : List Event) (vault : Told) (out : Option (List �
       out out_new (front_of world left now out_now out_new buffer going more)
 
   -- or one came of which nothing was printed
-  event_failed : (at : World) (e : Event) (left : List Event) (now new : Told)
+  pub event_failed : (at : World) (e : Event) (left : List Event) (now new : Told)
       → ((is_handover e ≡ false) × (new ≡ now)) ⊎ ((is_handover e ≡ true) × MayTake (image (kept at)) now new) → MayHand (images at (e ∷ left)) now new
   event_failed at e left now new (inl plain) = subst (λ (t : Told). MayHand (images at (e ∷ left)) now t) (sym plain.1) (may_none (images at (e ∷ left)) now)
   event_failed at e left now new (inr hands) =

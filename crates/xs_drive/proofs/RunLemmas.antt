@@ -180,7 +180,7 @@ module _ (w : World) (events : List Event) (vault : Told) (at : World) (e : Even
   }
 
 -- THE ENDS of a run
-abbrev to_come : World → List Event → List Said
+abbrev pub to_come : World → List Event → List Said
 to_come at left = map (λ _. said.Handed) (images at left)
 
 module _ (w : World) (events : List Event) (vault : Told) (at : World) (left : List Event) (now new : Told) (says : List Said) (lines : List ℕ)

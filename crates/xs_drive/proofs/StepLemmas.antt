@@ -42,7 +42,7 @@ same_line : (e : Event) (s : Said) (t u : List ℕ) → ((n : ℕ) → s ≡ sai
 same_line e s t u h = ap (λ x. spaced (event_words e ++ x) ++ 10 ∷ []) (same_words s t u h)
 
 -- A HANDOVER leaves the world as it is
-stays : (e : Event) (w : World) → is_handover e ≡ true → (event_with all_types e w).world ≡ w
+pub stays : (e : Event) (w : World) → is_handover e ≡ true → (event_with all_types e w).world ≡ w
 stays (Send d bytes) w is = cc
 stays (Put d max) w is = cc
 stays (Intake d max) w is = cc

@@ -1,6 +1,5 @@
 -- What `drive` says of its ends. This project's own.
-use Rattle.std.specs.Prelude.{◌≡◌, ◌⊎◌, ℕ, ◌≤◌, Bool, false, List, [], ◌∷◌, length, take, Option, Some, Ok, Err, codes}
-use Rattle.std.specs.Str.{bytes_eq}
+use Rattle.std.specs.Prelude.{◌≡◌, ◌⊎◌, ℕ, ◌≤◌, List, [], length, take, Option, Some, Ok, Err}
 use Rattle.std.specs.Io.KnownBytes.{Appends, Keeps}
 use Rattle.program_io.specs.Ends.{input_limit}
 use Rattle.xs_model.specs.Requests.{all_types}
@@ -15,12 +14,6 @@ use Rattle.world_laws.specs.Handovers.{without_handover_lines, without_handover_
 use Rattle.world_states.specs.States.{resumed}
 use Rattle.handover.specs.Hands.{Told}
 use Rattle.xs_drive.specs.Vaults.{HandsOn, told_within}
-
--- the one form: the word `run`
-abbrev pub is_run : List (List ℕ) → Bool
-is_run [] = false
-is_run (word ∷ []) = bytes_eq word (codes "run")
-is_run (word ∷ other ∷ words) = false
 
 -- THE TEXT is a script, which begins in this world: that of a new store, or of the state that its stream tells
 pub record IsPlayable (text : List ℕ) : Type 0 where

@@ -4,6 +4,7 @@ ghost use Rattle.std.specs.Prelude.{◌≡◌, ◌≤◌, List, Option, Some, Er
 ghost use Rattle.std.specs.List.{AllByRecursion};
 ghost use Rattle.kept_model.specs.declared.fault.LoadFault.{LoadFault};
 ghost use Rattle.world_model.specs.Worlds.{new_world};
+ghost use Rattle.world_model.specs.Transcripts.{with_domains};
 ghost use Rattle.guest_script.specs.Views.{domain_view, script_view};
 ghost use Rattle.guest_script.specs.Drafts.{IsSoundDomain};
 ghost use Rattle.world_core.specs.Stands.{StandsFor};
@@ -45,6 +46,16 @@ pub fn start(alloc: Global, script: &Script) -> Result<World, StartFault>
 {
     let mut world = first_world(alloc, &script.resume)?;
     add_domains(&mut world, &script.domains)?;
+    Ok(world)
+}
+
+/// The world of a new store with the domains of head lines.
+pub fn begin(alloc: Global, domains: &DomainLines) -> Result<World, NoMemory>
+    requires { AllByRecursion IsSoundDomain (map domain_view domains.now) }
+    ensures { IfOk result (λ world. StandsFor world (with_domains (map domain_view domains.now) new_world)) }
+{
+    let mut world = new_world(alloc)?;
+    add_domains(&mut world, domains)?;
     Ok(world)
 }
 

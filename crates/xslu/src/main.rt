@@ -51,7 +51,7 @@ fn say<R: Eprint>(rt: &R, status: Status) {
 fn reason(status: Status) -> &'static str {
     match status {
         Status::Done => "done",
-        Status::Usage => "usage: xslu run < SCRIPT",
+        Status::Usage => "usage: xslu run < SCRIPT, xslu make SEED N, or xslu bulk SEED N",
         Status::Script { .. } => "the script has a faulty line",
         Status::TooLong => "the script has more than 16777216 bytes",
         Status::ReadFault => "standard input failed",

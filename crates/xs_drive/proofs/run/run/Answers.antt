@@ -5,7 +5,7 @@ use Rattle.xs_drive.specs.Ends.{IsPlayable, IsRefused, PlaysAll, PlaysFront, Pla
 use Rattle.xs_drive.proofs.DriveLemmas.{of_whole, told_of, refused, not_refused, front_plays, all_plays, not_begun, load_of, all_counts, front_counts}
 use Rattle.xs_drive.proofs.FormLemmas.{events_move}
 use Rattle.xs_drive.proofs.StepLemmas.{told_by}
-use Rattle.xs_drive.proofs.drive.Goals as goal
+use Rattle.xs_drive.proofs.run.run.Goals as goal
 
 pub play-requires : goal.play-requires
 play-requires g c = events_move (map event_view c.in-Ok-read_script.script.events) c.in-Ok-read_script.ensures.sound
@@ -71,7 +71,7 @@ returns-in-Err-Load-clause-complete g c =
     let source = g.S.Source in
     let not = c.start.ensures.load c.in-Err-Load.fault (c.in-Err-Load.is ∙ ap Err c.in-Err-Load.field-0-is) in
     let is = refused c.as_slice.result.now c.in-Ok.text (script_view c.in-Ok-read_script.script) c.in-Err-Load.fault c.as_slice.ensures c.in-Ok.ensures.short c.in-Ok-read_script.ensures.script not in
-    λ run playable source_stood sink_stood some. not_refused c.in-Ok.text c.in-Err-Load.fault is
+    λ playable source_stood sink_stood some. not_refused c.in-Ok.text c.in-Err-Load.fault is
     (told_of (source.left c.args.src.now) (source.left c.read_all.new.src) c.in-Ok.text IsPlayable c.in-Ok.ensures.bytes c.in-Ok.ensures.end some playable)
 
 -- the faults of the vault
