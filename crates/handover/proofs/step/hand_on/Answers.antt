@@ -30,8 +30,7 @@ returns-in-Ok-clause-succeeds g c =
     let told_new : Told = record { puts = g.V.Vault.puts c.through.new.vault; gets = g.V.Vault.gets c.through.new.vault; faults = g.V.Vault.faults c.through.new.vault; honest = g.V.Vault.honest c.through.new.vault } in
     let same : state_of new loaded ≡ state =
     from_ok (state_of new loaded) state
-    (sym c.in-Ok.ensures.ok ∙ ap state_of_bytes (c.as_slice-2.ensures ∙ passed.0 ∙ put) ∙ image_tells state (c.is_sound.ensures.state ins c.requires.inboxes)) in
-    (
+    (sym c.in-Ok.ensures.ok ∙ ap state_of_bytes (c.as_slice-2.ensures ∙ passed.0 ∙ put) ∙ image_tells state (c.is_sound.ensures.state ins c.requires.inboxes)) in (
       goes_on old ins new loaded same c.is_sound.ensures.ids c.is_sound-in-Ok.ensures.ids c.is_sound.ensures.store c.in-Ok.ensures.named,
       subst (λ (string : List ℕ). HasHanded string told told_new) put passed.1,
     )
