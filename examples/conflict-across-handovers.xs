@@ -1,0 +1,32 @@
+# A conflict is remembered across handovers. A transaction read /a; another writes the same value to it. Whether the daemon is
+# replaced after the write or between the read and the write, END answers EAGAIN; without a write it commits.
+send 0 0b0000000000000000000000040000002f610078
+serve 0
+# the handover after the write: EAGAIN
+send 0 0600000000000000000000000100000000
+serve 0
+send 0 020000000000000001000000030000002f6100
+serve 0
+send 0 0b0000000000000000000000040000002f610078
+serve 0
+handover
+send 0 070000000000000001000000020000005400
+serve 0
+# the handover before the write: EAGAIN
+send 0 0600000000000000000000000100000000
+serve 0
+send 0 020000000000000001000000030000002f6100
+serve 0
+handover
+send 0 0b0000000000000000000000040000002f610078
+serve 0
+send 0 070000000000000001000000020000005400
+serve 0
+# no write: OK
+send 0 0600000000000000000000000100000000
+serve 0
+send 0 020000000000000001000000030000002f6100
+serve 0
+handover
+send 0 070000000000000001000000020000005400
+serve 0
