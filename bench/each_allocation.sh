@@ -1,6 +1,6 @@
 #!/usr/bin/env bash
 # Each allocation of a run refused in turn. Every such run ends with status 7 (no memory), having written a front of what the
-# run without a refusal writes, or it ends as that one does; never in a fault. Takes the names of examples, three of them where
+# run without a refusal writes, or it ends as that one does; never in a fault. Takes the names of examples, six of them where
 # none is given. Wants a C compiler: a small library stands in front of the C library's allocations and refuses one of them.
 set -eu
 . "$(dirname "$0")/common.sh"
@@ -37,7 +37,7 @@ complain() {
   bad=1
 }
 
-[ "$#" -gt 0 ] || set -- cut-header domains empty-store
+[ "$#" -gt 0 ] || set -- cut-header domains handover-in-mid-message device-hand-shake resumed empty-store
 for name in "$@"; do
   input=$here/examples/$name.xs program=$xslu word=run
   [ -e "$input" ] || input=$here/examples/$name.hex program=$xsstream word=hex
