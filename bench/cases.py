@@ -376,5 +376,12 @@ def handovers(count, size):
     print("handover\n" * (count // size), end="")
 
 
+def sockets(count):
+    """A state with so many socket connections goes on."""
+    conns = [record(2, struct.pack("<IHHIIIII", c, 1, 0, 7, 0, 0, 0, 0)) for c in range(1, count + 1)]
+    head = b"xenstore" + struct.pack(">I", 1) + bytes(4) + record(1, struct.pack("<ii", -1, -1))
+    print("resume " + (head + b"".join(conns) + record(0, b"")).hex())
+
+
 case, _, size = sys.argv[1].partition(":")
 globals()[case](int(sys.argv[2]), *map(int, size.split()))
